@@ -1,0 +1,4 @@
+pub mod Streams
+pub mod Writing
+pub mod Printing
+pub mod Moments

@@ -1,0 +1,5 @@
+pub mod Causes
+pub mod Fragments
+pub mod Links
+pub mod Moments
+pub mod Told

@@ -1,0 +1,22 @@
+//! The outside of a program (bytes in, bytes out, moments), lists in contracts, and printing without memory.
+#![tactic(auto)]
+
+mod clock;
+mod fault;
+mod items;
+mod link;
+mod memory;
+mod printer;
+mod sink;
+mod source;
+mod system;
+
+pub use clock::{Clock, GREATEST_MOMENT, StepClock};
+pub use fault::{Failed, NoMemory};
+pub use items::Items;
+pub use link::{Both, Link};
+pub use memory::{MemLink, MemSink, MemSource};
+pub use printer::{Fragment, print};
+pub use sink::Sink;
+pub use source::Source;
+pub use system::{Input, Output, SystemClock};
