@@ -1,0 +1,70 @@
+use crate::view::Piece;
+use sx_guard::{Access, Mode};
+use sx_names::{Path, ShareName};
+
+/// What an open does with a name that is there and with one that is absent.
+#[derive(Clone, Copy, Debug, PartialEq, Eq)]
+pub enum How {
+    /// The name must be there.
+    Existing,
+    /// The name must be absent, and is made.
+    Create,
+}
+
+/// What is asked of the account.
+#[derive(Debug, Drop)]
+pub enum Call {
+    /// Create Share, with a quota in GiB.
+    CreateShare {
+        share: ShareName,
+        quota: u32,
+    },
+    /// Starts a session of this peer.
+    Start {
+        peer: u32,
+    },
+    /// Ends the session, and closes its handles.
+    End,
+    /// Opens a file of a share.
+    SmbOpen {
+        share: ShareName,
+        path: Path,
+        access: Access,
+        mode: Mode,
+        how: How,
+    },
+    /// Closes a handle.
+    SmbClose {
+        index: u32,
+    },
+    /// Reads from an open file: at most `count` bytes from `at` on.
+    SmbRead {
+        index: u32,
+        at: u64,
+        count: u32,
+    },
+    /// Writes into an open file at `at`, past its end too.
+    SmbWrite {
+        index: u32,
+        at: u64,
+        piece: Piece,
+    },
+}
+
+/// One place of the history: who called, in which session (0 where there is none), at which moment, with which number drawn
+/// at random (0 where none is wanted), and what.
+#[derive(Debug, Drop)]
+pub struct Entry {
+    pub who: u32,
+    pub session: u32,
+    pub at: u64,
+    pub fresh: u128,
+    pub call: Call,
+}
+
+/// An entry as the history keeps it, with a mark that says whether it was refused.
+#[derive(Debug, Drop)]
+pub struct Noted {
+    pub entry: Entry,
+    pub refused: bool,
+}
