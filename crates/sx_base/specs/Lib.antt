@@ -1,4 +1,5 @@
 pub mod Causes
+pub mod Entries
 pub mod Fragments
 pub mod Links
 pub mod Moments

@@ -1,6 +1,6 @@
-use crate::view::Piece;
+use crate::view::Update;
 use sx_guard::{Access, Mode};
-use sx_names::{Path, ShareName};
+use sx_names::{Path, Quota, ShareName};
 
 /// What an open does with a name that is there and with one that is absent.
 #[derive(Clone, Copy, Debug, PartialEq, Eq)]
@@ -14,10 +14,10 @@ pub enum How {
 /// What is asked of the account.
 #[derive(Debug, Drop)]
 pub enum Call {
-    /// Create Share, with a quota in GiB.
+    /// Create Share.
     CreateShare {
         share: ShareName,
-        quota: u32,
+        quota: Quota,
     },
     /// Starts a session of this peer.
     Start {
@@ -43,12 +43,35 @@ pub enum Call {
         at: u64,
         count: u32,
     },
-    /// Writes into an open file at `at`, past its end too.
+    /// Writes into an open file, past its end too.
     SmbWrite {
         index: u32,
-        at: u64,
-        piece: Piece,
+        update: Update,
     },
+}
+
+impl Call {
+    ghost use Rattle.sx_call.specs.Calls.{IsWithinLimits};
+
+    /// What the types of its fields keep. It does nothing.
+    pub fn keeps_limits(&self)
+        ensures { IsWithinLimits self.now }
+    {
+        match self {
+            Call::CreateShare { share, quota } => {
+                let _name = share.bytes();
+                let _gib = quota.gib();
+            }
+            Call::SmbOpen { share, path, .. } => {
+                let _name = share.bytes();
+                let _parts = path.parts();
+            }
+            Call::SmbWrite { update, .. } => {
+                let _at = update.at();
+            }
+            Call::Start { .. } | Call::End | Call::SmbClose { .. } | Call::SmbRead { .. } => {}
+        }
+    }
 }
 
 /// One place of the history: who called, in which session (0 where there is none), at which moment, with which number drawn

@@ -9,6 +9,6 @@ pub use call::{Call, Entry, How, Noted};
 pub use held::{Live, Open};
 pub use reply::{Fate, Refusal, Reply, SmbReply, Stop};
 pub use sx_guard::{Access, HandleId, Mode};
-pub use view::{Piece, View};
+pub use view::{Piece, Update, View};
 
 mod view;

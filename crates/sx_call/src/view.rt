@@ -1,4 +1,5 @@
-ghost use Rattle.std.specs.Prelude.{◌≡◌, ◌≤◌, IfOk, length};
+ghost use Rattle.std.specs.Prelude.{◌≡◌, ◌+◌, ◌≤◌, IfOk, length};
+ghost use Rattle.sx_call.specs.Limits.{IsPlaced};
 
 use std::alloc::Global;
 use std::marker::Model;
@@ -48,6 +49,50 @@ impl Piece {
         Ok(Piece {
             bytes: self.bytes.copy(alloc)?,
         })
+    }
+}
+
+/// A piece and the place in a file where it is written. It ends at most at 4 TiB.
+#[derive(Debug, Drop)]
+pub struct Update {
+    at: u64,
+    piece: Piece,
+}
+
+impl Model for Update {
+    ghost use Rattle.sx_call.specs.Limits.{Placed, IsPlaced};
+
+    ghost Value = { Placed };
+
+    ghost view = { λ u. record { at = u.at; piece = u.piece } };
+
+    ghost invariant = { λ u. IsPlaced (record { at = u.at; piece = u.piece }) };
+}
+
+impl Update {
+    /// A piece at a place.
+    pub fn of(at: u64, piece: Piece) -> Update
+        requires { at + length piece ≤ 4398046511104 }
+        ensures { result ≡ record { at = at; piece = piece } }
+    {
+        let _length = piece.bytes().len();
+        Update { at, piece }
+    }
+
+    /// The place of the first byte.
+    pub fn at(&self) -> u64
+        ensures value { result ≡ self.now.at }
+        ensures limits { IsPlaced self.now }
+    {
+        self.at
+    }
+
+    /// The bytes.
+    pub fn bytes(&self) -> &[u8]
+        ensures value { result.now ≡ self.now.piece }
+        ensures limits { IsPlaced self.now }
+    {
+        self.piece.bytes()
     }
 }
 

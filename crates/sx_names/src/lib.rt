@@ -1,12 +1,14 @@
-//! Names: shares, the parts of paths and paths, with their case folding.
+//! Names of shares, parts and paths, with their case folding, and the limits of plain fields.
 #![tactic(auto)]
 
 mod part;
 mod path;
+mod quota;
 mod share;
 mod unnamed;
 
 pub use part::{Folded, Part};
 pub use path::Path;
+pub use quota::Quota;
 pub use share::ShareName;
 pub use unnamed::Unnamed;

@@ -38,6 +38,7 @@ impl Path {
     /// The parts, from the root on.
     pub fn parts(&self) -> &[Part]
         ensures value { result.now ≡ self.now }
+        ensures path { is_path self.now ≡ true }
         ensures short { length self.now ≤ 250 }
     {
         self.parts.as_slice()
