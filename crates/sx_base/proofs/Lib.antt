@@ -1,4 +1,5 @@
+pub mod Firsts
+pub mod Moments
+pub mod Printing
 pub mod Streams
 pub mod Writing
-pub mod Printing
-pub mod Moments

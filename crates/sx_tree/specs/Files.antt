@@ -1,5 +1,5 @@
 -- A file's bytes, and what a write makes of them.
-use Rattle.std.specs.Prelude.{ℕ, ◌+◌, ◌-◌, Bool, true, false, List, [], ◌++◌, length, take, drop, replicate, Option, Some, None}
+use Rattle.std.specs.Prelude.{ℕ, ◌+◌, ◌-◌, Bool, true, false, List, [], ◌++◌, length, take, drop, replicate}
 use Rattle.sx_tree.specs.declared.node.FileBody.{FileBody}
 use Rattle.sx_tree.specs.declared.node.Kind.{Kind}
 use Rattle.sx_tree.specs.declared.node.Kind.TheVariants.{Directory, File}
@@ -7,10 +7,6 @@ use Rattle.sx_tree.specs.declared.node.Kind.TheVariants.{Directory, File}
 abbrev pub is_directory : Kind → Bool
 is_directory Directory = true
 is_directory (File body) = false
-
-abbrev pub body_in : Kind → Option FileBody
-body_in Directory = None
-body_in (File body) = Some body
 
 -- the bytes of a file; a directory has none
 abbrev pub bytes_of : Kind → List ℕ

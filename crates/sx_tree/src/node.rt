@@ -1,6 +1,5 @@
-ghost use Rattle.std.specs.Prelude.{◌≡◌, ◌+◌, ◌<◌, ◌≤◌, ◌^◌, OnOk, OnErr, IfOk, length};
-ghost use Rattle.sx_tree.specs.Files.{is_directory, length_of, written_kind, body_in};
-ghost use Rattle.std.specs.Option.{option_copied};
+ghost use Rattle.std.specs.Prelude.{◌≡◌, ◌+◌, ◌<◌, ◌≤◌, ◌^◌, OnOk, OnErr, length};
+ghost use Rattle.sx_tree.specs.Files.{is_directory, length_of, written_kind, bytes_of};
 
 use sx_base::{Items, NoMemory};
 
@@ -57,13 +56,13 @@ impl Kind {
         }
     }
 
-    /// A file's body.
-    pub fn file(&self) -> Option<&FileBody>
-        ensures { option_copied result ≡ body_in self.now }
+    /// A file's bytes; a directory has none.
+    pub fn bytes(&self) -> &[u8]
+        ensures { result.now ≡ bytes_of self.now }
     {
         match self {
-            Kind::Directory => None,
-            Kind::File(body) => Some(body),
+            Kind::Directory => &[],
+            Kind::File(body) => body.bytes.as_slice(),
         }
     }
 

@@ -1,0 +1,33 @@
+use Rattle.std.proofs.Common.{◌≡◌, ℕ, ◌+◌, ◌≤◌, ◌++◌, ◌∷◌, [], List, length, ap, arith, length-append, sym, ◌∙◌, subst, rules}
+use Rattle.sx_call.specs.declared.call.Noted.{Noted}
+use Rattle.sx_call.specs.declared.reply.Reply.{Reply}
+use Rattle.sx_spec.specs.Account.{Account}
+use Rattle.sx_spec.specs.History.{History, MayCome, wants, is_refused, last_moment}
+use Rattle.sx_spec.specs.Step.{replay, step}
+use Rattle.sx_spec.specs.Whole.{IsWhole}
+use Rattle.sx_spec.proofs.Histories.{kept_more, step_room}
+use Rattle.sx_book.proofs.book.Book.step.Goals as goal
+
+pub invariant_of-self-2 : goal.invariant_of-self-2
+invariant_of-self-2 c =
+    let b = c.self.inside in
+    let n : Noted = record { entry = c.args.entry; refused = c.is_refusal-refused.result } in
+    let items : c.push.new.self.items ≡ b.entries.items ++ n ∷ [] = (rw c.unwrap.ensures at c.push.ensures.items) ∙ ap (λ (xs : List Noted). xs ++ n ∷ []) c.reserve.ensures.items in
+    let M : History → Type 0 = λ h. MayCome (replay h.entries) (last_moment h.entries) c.args.entry in
+    let N : Account → Type 0 = λ a. MayCome a (last_moment b.entries.items) c.args.entry in
+    let may : MayCome b.state (last_moment b.entries.items) n.entry = subst N (sym c.self.invariant.state) (subst M (sym c.self.view_is) c.requires) in
+    let done : (c.serve.new.state, c.in-Ok.reply) ≡ step b.state n.entry = c.in-Ok.ensures.done in
+    let new : c.serve.new.state ≡ (step b.state n.entry).0 = ap (λ (p : Account × Reply). p.0) done in
+    let marked : n.refused ≡ is_refused (step b.state n.entry).1 = c.is_refusal-refused.ensures ∙ ap (λ (p : Account × Reply). is_refused p.1) done in
+    let wanted : c.wanted-wanted.result ≡ wants b.state n.entry.call = c.wanted-wanted.ensures.wants b.state (sym c.live-sessions.ensures) in
+    let room : length b.entries.items + wants b.state n.entry.call ≤ b.limit = omega (arith, c.count-entries.ensures ∙ ap length c.deref.ensures.value, wanted, c.from-limit.ensures, c.if-limit-entries.false) in
+    let kept = kept_more b.state c.serve.new.state b.limit b.entries.items n c.self.invariant.state c.self.invariant.came c.self.invariant.legal may new marked room in
+    let left = step_room b.state (last_moment b.entries.items) n.entry may in
+    record {
+      state = rw items kept.state;
+      came = rw items kept.came;
+      room = rw items kept.room;
+      kept = ?;
+      legal = rw items kept.legal;
+      whole = ?;
+    }
