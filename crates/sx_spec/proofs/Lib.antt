@@ -1,0 +1,10 @@
+pub mod Added
+pub mod Grown
+pub mod Inserts
+pub mod Lists
+pub mod Lookups
+pub mod Opens
+pub mod Orders
+pub mod Sessions
+pub mod Shares
+pub mod Written
