@@ -49,7 +49,7 @@ grown_is next t parent name node w k q x at =
     change_there parent (with_child (fold name) node.id) (insert_entry nat_cmp t.slots node.id (new_slot name node)) q x
     (inserted_other numbers node.id q (new_slot name node) t.slots (other_id next node.id q k.id (w.ids q x at).1) ∙ at)
 
-grown_new : (next : ℕ) (t : Nodes) (parent : ℕ) (name : List ℕ) (node : Node) → IsTree next t → IsRoom next t parent name node → slot_at (with_node t parent name node) node.id ≡ Some (new_slot name node)
+pub grown_new : (next : ℕ) (t : Nodes) (parent : ℕ) (name : List ℕ) (node : Node) → IsTree next t → IsRoom next t parent name node → slot_at (with_node t parent name node) node.id ≡ Some (new_slot name node)
 grown_new next t parent name node w k =
     let (y, at, how) = change_there parent (with_child (fold name) node.id) (insert_entry nat_cmp t.slots node.id (new_slot name node)) node.id (new_slot name node) (inserted numbers node.id (new_slot name node) t.slots) in
     at ∙ ap (λ (s : Slot). Some s) (⊎_elim (λ (h : (node.id ≢ parent) × (y ≡ new_slot name node)). h.1)

@@ -8,3 +8,8 @@ pub mod Orders
 pub mod Sessions
 pub mod Shares
 pub mod Written
+pub mod Accounts
+pub mod Walks
+pub mod Places
+pub mod Refusals
+pub mod WholeSteps
