@@ -1,6 +1,6 @@
 -- The changes of an account, each of which leaves it whole with one more entry.
-use Rattle.std.proofs.Common.{◌≡◌, ◌≢◌, ℕ, ◌+◌, ◌≤◌, ◌<◌, true, false, Bool, not, List, [], ◌∷◌, ◌++◌, Option, Some, None, refl, rules, sym, ap, ◌∙◌, subst, arith}
-use Rattle.std.specs.List.{AllByRecursion, filter, find, list_any}
+use Rattle.std.proofs.Common.{◌≡◌, ℕ, ◌+◌, ◌≤◌, true, false, Bool, not, List, [], ◌∷◌, ◌++◌, Option, Some, refl, ap, arith}
+use Rattle.std.specs.List.{filter, list_any}
 use Rattle.std.specs.Ordering.{nat_cmp}
 use Rattle.std.specs.BTreeMap.{insert_entry}
 use Rattle.sx_base.specs.Entries.{value_at, change, change_at}
@@ -13,14 +13,14 @@ use Rattle.sx_names.specs.Limits.{IsQuota}
 use Rattle.sx_names.specs.Names.{is_share_name}
 use Rattle.sx_tree.specs.declared.share.Share.{Share}
 use Rattle.sx_tree.specs.Files.{is_directory}
-use Rattle.sx_tree.specs.Nodes.{Nodes, Slot, slot_at, new_nodes}
-use Rattle.sx_spec.specs.Account.{Account, empty, is_session, session_of, has_name, with_open}
+use Rattle.sx_tree.specs.Nodes.{Slot, slot_at, new_nodes}
+use Rattle.sx_spec.specs.Account.{Account, is_session, session_of, has_name}
 use Rattle.sx_spec.specs.Step.{came_one, with_share, with_session, without_session, granted_in, next_index, grant, opened}
 use Rattle.sx_spec.specs.Whole.{IsOpen, IsWhole}
-use Rattle.sx_spec.proofs.Sessions.{AreSessions, SessionsStay, sessions_later, sessions_same, sessions_started, started_stay, sessions_ended, sessions_granted, granted_finds, granted_stay}
+use Rattle.sx_spec.proofs.Sessions.{AreSessions, sessions_later, sessions_same, sessions_started, started_stay, sessions_ended, sessions_granted, granted_finds, granted_stay}
 use Rattle.sx_spec.proofs.Opens.{AreOpens, SharesStay, shares_same, opens_stay, opens_filter, opens_ended, opens_more}
 use Rattle.sx_spec.proofs.Shares.{AreShares, Changes, shares_changed, changed_stay}
-use Rattle.sx_spec.proofs.Added.{IsNewShare, shares_added, added_stay}
+use Rattle.sx_spec.proofs.Added.{shares_added, added_stay}
 
 -- ---- an account is whole if its parts are
 pub sessions_in : (a : Account) → IsWhole a → AreSessions a.started a.came a.sessions

@@ -1,5 +1,5 @@
 -- A tree with one more node, under a name in a directory.
-use Rattle.std.proofs.Common.{◌≡◌, ◌≢◌, ℕ, ◌+◌, ◌<◌, ◌≤◌, true, false, Bool, List, [], Option, Some, None, refl, rules, sym, ap, ◌∙◌, ◌⊎◌, inl, inr, ⊎_elim, subst, arith}
+use Rattle.std.proofs.Common.{◌≡◌, ◌≢◌, ℕ, ◌+◌, ◌<◌, ◌≤◌, true, false, Bool, List, [], Some, None, refl, sym, ap, ◌∙◌, ◌⊎◌, inl, inr, ⊎_elim, subst, arith}
 use Rattle.std.specs.List.Sorted.{IsStrictlySortedBy}
 use Rattle.std.specs.Ordering.{nat_cmp}
 use Rattle.std.specs.Cmp.Lexicographic.{slice_cmp}
@@ -10,7 +10,6 @@ use Rattle.std.proofs.lemmas.Bool.{cases_eq}
 use Rattle.std.proofs.lemmas.Slice.Eq.{bytes_eq-Decides}
 use Rattle.std.proofs.lemmas.Bool.Decides.{not_from_Decides}
 use Rattle.std.specs.Prelude.{bytes_eq}
-use Rattle.sx_base.specs.Entries.{value_at, change_at}
 use Rattle.sx_names.specs.Names.{fold, is_part}
 use Rattle.sx_tree.specs.declared.node.Node.{Node}
 use Rattle.sx_tree.specs.Files.{is_directory}
@@ -19,7 +18,6 @@ use Rattle.sx_spec.specs.Whole.{IsTree, IsChild, IsListed}
 use Rattle.sx_spec.proofs.Inserts.{numbers, names, inserted, inserted_other, inserted_sorted}
 use Rattle.sx_spec.proofs.Lists.{none_some, true_false}
 use Rattle.sx_spec.proofs.Lookups.{Became, change_there, change_back, change_keys}
-use Rattle.sx_spec.proofs.Opens.{SlotsStay}
 use Rattle.sx_spec.proofs.Shares.{TreeGoes}
 
 -- a node of the next id fits under a name that is free in a directory

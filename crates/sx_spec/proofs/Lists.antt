@@ -1,5 +1,5 @@
 -- Lists of which all items have a fact, and what is found in a list that was filtered or changed.
-use Rattle.std.proofs.Common.{◌≡◌, true, false, Bool, cond, not, List, [], ◌∷◌, Option, Some, None, refl, rules, sym, ap, ◌∙◌, subst, option_map}
+use Rattle.std.proofs.Common.{◌≡◌, true, false, Bool, cond, List, [], ◌∷◌, Option, Some, None, refl, rules, sym, ap, ◌∙◌, subst, option_map}
 use Rattle.std.specs.List.{AllByRecursion, filter, find}
 use Rattle.std.proofs.lemmas.Option.{same_Some}
 use Rattle.sx_base.specs.Entries.{change}

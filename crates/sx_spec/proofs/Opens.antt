@@ -1,5 +1,5 @@
 -- The opens, over sessions and shares that go on.
-use Rattle.std.proofs.Common.{◌≡◌, ◌≢◌, ℕ, ◌+◌, ◌≤◌, true, false, Bool, cond, not, List, [], ◌∷◌, Option, Some, None, refl, rules, sym, ap, ◌∙◌, subst, arith, inl, inr, ⊎_elim}
+use Rattle.std.proofs.Common.{◌≡◌, ◌≢◌, ℕ, ◌+◌, true, false, Bool, not, List, Some, refl, rules, sym, ap, ◌∙◌, arith, inl, inr, ⊎_elim}
 use Rattle.std.specs.List.{AllByRecursion, filter, find}
 use Rattle.std.proofs.lemmas.Bool.{cases_eq}
 use Rattle.std.proofs.lemmas.Option.{same_Some}

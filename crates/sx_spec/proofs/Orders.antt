@@ -1,8 +1,7 @@
 -- The order of opens, after one more is put in its place and after some go.
-use Rattle.std.proofs.Common.{◌≡◌, ◌≢◌, ℕ, ◌+◌, ◌≤◌, ◌<◌, ◌==◌, ◌&&◌, ◌||◌, true, false, Bool, cond, not, List, [], ◌∷◌, ◌++◌, refl, sym, subst, arith, ◌⊎◌, take, drop, suc}
-use Rattle.std.specs.Prelude.{nat_lt}
+use Rattle.std.proofs.Common.{◌≡◌, ◌≢◌, ℕ, ◌+◌, true, false, Bool, cond, List, [], ◌∷◌, ◌++◌, refl, sym, subst, arith, ◌⊎◌, take, drop, suc}
 use Rattle.std.proofs.lemmas.Bool.Decides.{nat_tests}
-use Rattle.std.specs.List.{AllByRecursion, filter, insert, position_or_len}
+use Rattle.std.specs.List.{AllByRecursion, filter, position_or_len}
 use Rattle.sx_guard.specs.declared.handle.HandleId.{HandleId}
 use Rattle.sx_call.specs.declared.held.Open.{Open}
 use Rattle.sx_spec.specs.Account.{is_before, with_open}

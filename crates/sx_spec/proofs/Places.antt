@@ -1,5 +1,5 @@
 -- What an open that no check refuses finds, and what it leaves.
-use Rattle.std.proofs.Common.{◌≡◌, ◌≢◌, ℕ, ◌+◌, ◌≤◌, ◌&&◌, true, false, Bool, cond, List, [], ◌∷◌, Option, Some, None, refl, rules, sym, ap, ◌∙◌, ◌⊎◌, inl, inr, ⊎_elim, subst, arith, option_map, option_and_then}
+use Rattle.std.proofs.Common.{◌≡◌, ◌≢◌, ℕ, ◌+◌, ◌≤◌, true, false, Bool, cond, List, [], ◌∷◌, Option, Some, None, refl, rules, sym, ap, ◌∙◌, ⊎_elim, subst, arith, option_map, option_and_then}
 use Rattle.std.specs.Prelude.{if◌then◌else◌}
 use Rattle.std.specs.declared.cmp.Ordering.TheVariants.{Less}
 use Rattle.std.specs.BTreeMap.{is_at}
@@ -20,23 +20,21 @@ use Rattle.sx_call.specs.declared.reply.Refusal.TheVariants as refusal
 use Rattle.sx_names.specs.Names.{is_part}
 use Rattle.sx_tree.specs.declared.node.Found.{Found}
 use Rattle.sx_tree.specs.declared.node.Found.TheVariants as found
-use Rattle.sx_tree.specs.declared.node.Kind.TheVariants.{File}
-use Rattle.sx_tree.specs.declared.node.Node.{Node}
 use Rattle.sx_tree.specs.declared.share.Share.{Share}
 use Rattle.sx_tree.specs.Files.{is_directory}
 use Rattle.sx_tree.specs.Nodes.{Nodes, Slot, slot_at, node_at, found_in, with_node}
 use Rattle.sx_spec.specs.Account.{Account, session_of, has_name, share_named, place_of, node_in}
 use Rattle.sx_spec.specs.FirstRefusal.{first_of, first_open, file_wanted}
-use Rattle.sx_spec.specs.Step.{came_one, new_file, with_file, opened, made_and_opened, opens_at, opens_in}
-use Rattle.sx_spec.specs.Whole.{IsTree, IsWhole}
+use Rattle.sx_spec.specs.Step.{came_one, new_file, with_file, opened, opens_at, opens_in}
+use Rattle.sx_spec.specs.Whole.{IsWhole}
 use Rattle.sx_spec.proofs.Inserts.{numbers, here, apart}
-use Rattle.sx_spec.proofs.Lists.{none_some, true_false}
-use Rattle.sx_spec.proofs.Lookups.{Became, change_there}
-use Rattle.sx_spec.proofs.Opens.{SharesStay, shares_same}
-use Rattle.sx_spec.proofs.Shares.{AreShares, Changes, ShareGoes, shares_changed, changed_stay}
+use Rattle.sx_spec.proofs.Lists.{none_some}
+use Rattle.sx_spec.proofs.Lookups.{change_there}
+use Rattle.sx_spec.proofs.Opens.{shares_same}
+use Rattle.sx_spec.proofs.Shares.{Changes, ShareGoes, shares_changed, changed_stay}
 use Rattle.sx_spec.proofs.Grown.{IsRoom, new_slot, grown_new, grown_goes}
 use Rattle.sx_spec.proofs.Walks.{IsFree, path_node, path_missing}
-use Rattle.sx_spec.proofs.Accounts.{shares_in, came_whole, IsOpenable, open_whole}
+use Rattle.sx_spec.proofs.Accounts.{shares_in, came_whole, open_whole}
 
 -- ---- the share that is found by its name stands under its number
 above_by : {X : Type 0} (P : ℕ → Type 0) (p : ℕ × X → Bool) (es : List (ℕ × X)) (e : ℕ × X) → AllByRecursion P (keys_of es) → find p es ≡ Some e → P e.0

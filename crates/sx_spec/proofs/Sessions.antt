@@ -1,5 +1,5 @@
 -- The live sessions, after one more is started, one is ended and one is granted an open.
-use Rattle.std.proofs.Common.{◌≡◌, ◌≢◌, ℕ, ◌+◌, ◌≤◌, ◌<◌, ◌==◌, true, false, Bool, cond, not, List, [], ◌∷◌, ◌++◌, Option, Some, None, refl, rules, sym, ap, ◌∙◌, subst, arith, ◌⊎◌, inl, inr, ⊎_elim, option_map}
+use Rattle.std.proofs.Common.{◌≡◌, ◌≢◌, ℕ, ◌+◌, ◌≤◌, ◌<◌, true, false, Bool, cond, not, List, [], ◌∷◌, ◌++◌, Some, refl, rules, ap, ◌∙◌, subst, arith, ⊎_elim, option_map}
 use Rattle.std.specs.List.{AllByRecursion, filter, find}
 use Rattle.std.proofs.lemmas.Bool.{cases_eq}
 use Rattle.std.proofs.lemmas.List.Folds.{find-append}
@@ -8,7 +8,7 @@ use Rattle.sx_call.specs.declared.held.Live.{Live}
 use Rattle.sx_spec.specs.Account.{is_session}
 use Rattle.sx_spec.specs.Step.{grant}
 use Rattle.sx_spec.specs.Whole.{IsLive, AreDifferent}
-use Rattle.sx_spec.proofs.Lists.{all_map, all_filter, find_filter, find_change, find_other, true_false}
+use Rattle.sx_spec.proofs.Lists.{all_map, all_filter, find_filter, find_change, find_other}
 
 -- the facts of the live sessions
 pub record AreSessions (started came : ℕ) (ls : List Live) : Type 0 where

@@ -1,22 +1,15 @@
 -- The shares, after one is added and one is changed.
-use Rattle.std.proofs.Common.{◌≡◌, ◌≢◌, ℕ, ◌+◌, ◌≤◌, ◌<◌, true, false, Bool, cond, List, [], ◌∷◌, Option, Some, None, refl, rules, sym, ap, ◌∙◌, subst, arith, ◌⊎◌, inl, inr, ⊎_elim}
-use Rattle.std.specs.Prelude.{bytes_eq}
-use Rattle.std.specs.BTreeMap.{insert_entry, is_at}
-use Rattle.std.specs.List.{find, list_any}
+use Rattle.std.proofs.Common.{◌≡◌, ◌≢◌, ℕ, ◌≤◌, ◌<◌, List, Some, sym, ap, ◌∙◌, subst, arith, ◌⊎◌, inl, inr, ⊎_elim}
 use Rattle.std.specs.List.Sorted.{IsStrictlySortedBy}
-use Rattle.std.specs.Map.{keys_of, lookup}
+use Rattle.std.specs.Map.{keys_of}
 use Rattle.std.specs.Ordering.{nat_cmp}
-use Rattle.std.proofs.lemmas.Bool.{cases_eq}
-use Rattle.std.proofs.lemmas.Option.{same_Some}
 use Rattle.sx_base.specs.Entries.{value_at, change_at}
 use Rattle.sx_names.specs.Limits.{IsQuota}
 use Rattle.sx_names.specs.Names.{is_share_name}
 use Rattle.sx_tree.specs.declared.share.Share.{Share}
 use Rattle.sx_tree.specs.Nodes.{Nodes, Slot, slot_at}
-use Rattle.sx_spec.specs.Account.{has_name}
 use Rattle.sx_spec.specs.Whole.{IsTree, IsShare}
-use Rattle.sx_spec.proofs.Inserts.{numbers, inserted, inserted_other, inserted_sorted}
-use Rattle.sx_spec.proofs.Lookups.{Became, change_there, change_back, change_keys}
+use Rattle.sx_spec.proofs.Lookups.{change_there, change_back, change_keys}
 use Rattle.sx_spec.proofs.Opens.{SlotsStay, SharesStay, slots_same}
 
 -- the facts of the shares

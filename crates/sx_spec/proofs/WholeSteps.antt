@@ -1,9 +1,8 @@
 -- Each step keeps an account whole.
-use Rattle.std.proofs.Common.{◌≡◌, ◌≢◌, ℕ, ◌+◌, ◌≤◌, ◌==◌, ◌&&◌, true, false, Bool, not, List, [], ◌∷◌, Option, Some, None, refl, rules, sym, ap, ◌∙◌, subst, arith}
+use Rattle.std.proofs.Common.{◌≡◌, ℕ, ◌≤◌, ◌&&◌, true, false, Bool, not, Option, Some, None, refl, sym, arith}
 use Rattle.std.specs.Prelude.{if◌then◌else◌}
-use Rattle.std.specs.List.{list_all, list_any, find}
+use Rattle.std.specs.List.{list_all, list_any}
 use Rattle.std.specs.List.Sorted.{IsStrictlySortedBy}
-use Rattle.sx_base.specs.Entries.{value_at}
 use Rattle.sx_base.specs.Moments.{greatest_moment}
 use Rattle.sx_call.specs.declared.call.Call.{Call}
 use Rattle.sx_call.specs.declared.call.Call.TheVariants.{CreateShare, Start, End, SmbOpen, SmbClose, SmbRead, SmbWrite}
@@ -14,8 +13,7 @@ use Rattle.sx_call.specs.declared.reply.Refusal.{Refusal}
 use Rattle.sx_call.specs.declared.reply.Refusal.TheVariants as refusal
 use Rattle.sx_call.specs.Calls.{IsWithinLimits}
 use Rattle.sx_call.specs.Limits.{Placed}
-use Rattle.sx_names.specs.Names.{is_part, is_path}
-use Rattle.sx_tree.specs.declared.share.Share.{Share}
+use Rattle.sx_names.specs.Names.{is_part}
 use Rattle.sx_spec.specs.Account.{Account, empty, session_of, open_of, has_name, has_handle}
 use Rattle.sx_spec.specs.FirstRefusal.{first}
 use Rattle.sx_spec.specs.History.{MayCome, is_of_caller, is_in_session}

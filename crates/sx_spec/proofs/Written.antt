@@ -1,5 +1,5 @@
 -- A tree in which bytes are written into a file.
-use Rattle.std.proofs.Common.{◌≡◌, ◌≢◌, ℕ, ◌+◌, ◌<◌, ◌≤◌, true, false, Bool, List, [], Option, Some, None, refl, rules, sym, ap, ◌∙◌, ◌⊎◌, inl, inr, ⊎_elim, subst, arith}
+use Rattle.std.proofs.Common.{◌≡◌, ℕ, true, List, Some, None, refl, sym, ap, ◌∙◌, inl, inr, subst, arith}
 use Rattle.std.specs.List.Sorted.{IsStrictlySortedBy}
 use Rattle.std.specs.Ordering.{nat_cmp}
 use Rattle.std.specs.Cmp.Lexicographic.{slice_cmp}
@@ -7,12 +7,10 @@ use Rattle.std.specs.Map.{keys_of, lookup}
 use Rattle.sx_names.specs.Names.{fold}
 use Rattle.sx_tree.specs.declared.node.Kind.{Kind}
 use Rattle.sx_tree.specs.declared.node.Kind.TheVariants.{Directory, File}
-use Rattle.sx_tree.specs.declared.node.Node.{Node}
 use Rattle.sx_tree.specs.Files.{is_directory, written_kind}
 use Rattle.sx_tree.specs.Nodes.{Nodes, Slot, slot_at, by_name, written_slot, written_nodes}
 use Rattle.sx_spec.specs.Whole.{IsTree, IsChild, IsListed}
 use Rattle.sx_spec.proofs.Lookups.{Became, change_there, change_back, change_keys}
-use Rattle.sx_spec.proofs.Opens.{SlotsStay}
 use Rattle.sx_spec.proofs.Shares.{TreeGoes}
 
 -- a slot that is as another one but for a file's bytes
