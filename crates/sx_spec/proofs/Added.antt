@@ -38,6 +38,7 @@ alone : (root q : ℕ) (x : Slot) → slot_at (new_nodes root) q ≡ Some x → 
 unfolding new_root
 alone root q x e = alone_by root q x (is_at (nat_cmp q) root) refl e
 
+-- a root alone is a tree
 pub new_tree : (root : ℕ) → IsTree (root + 1) (new_nodes root)
 unfolding new_root IsStrictlySortedBy
 new_tree root = record {
@@ -73,39 +74,12 @@ unlike : (a b : List ℕ) → bytes_eq a b ≡ false → a ≢ b
 unlike a b off = not_from_Decides (bytes_eq a b) (bytes_eq-Decides a b) off
 
 -- ---- one share more
+-- a share of a free name, with a root alone
 pub record IsNewShare (next : ℕ) (ss : List (ℕ × Share)) (s : Share) : Type 0 where
   pub name : is_share_name s.name ≡ true
   pub quota : IsQuota s.quota
   pub tree : s.tree ≡ new_nodes next
   pub free : list_any (has_name s.name) ss ≡ false
-
--- what stands under a number is the new share, or stood there
-Was : (made : ℕ) (ss : List (ℕ × Share)) (s : Share) (n : ℕ) (r : Share) → Type 0
-Was made ss s n r = ((n ≡ made + 1) × (r ≡ s)) ⊎ (value_at ss n ≡ Some r)
-
-was : (made : ℕ) (ss : List (ℕ × Share)) (s : Share) (n : ℕ) (r : Share) → value_at (insert_entry nat_cmp ss (made + 1) s) n ≡ Some r → Was made ss s n r
-unfolding Was
-was made ss s n r e = ⊎_elim
-    (λ (same : n ≡ made + 1). inl (same, sym (same_Some _ _ (sym (inserted numbers (made + 1) s ss) ∙ subst (λ (k : ℕ). value_at (insert_entry nat_cmp ss (made + 1) s) k ≡ Some r) same e))))
-    (λ (ne : n ≢ made + 1). inr (sym (inserted_other numbers (made + 1) n s ss (λ h. ne (sym h))) ∙ e))
-    (cases_eq n (made + 1))
-
-number_by : (next made n : ℕ) (ss : List (ℕ × Share)) (s r : Share) → AreShares next made ss → Was made ss s n r → (1 ≤ n) × (n ≤ made + 1)
-unfolding Was
-number_by next made n ss s r w (inl h) = (omega (arith, h.0), omega (arith, h.0))
-number_by next made n ss s r w (inr e) = let k = w.numbers n r e in (k.0, omega (arith, k.1))
-
-share_by : (next made n : ℕ) (ss : List (ℕ × Share)) (s r : Share) → AreShares next made ss → IsNewShare next ss s → Was made ss s n r → IsShare (next + 1) r
-unfolding Was
-share_by next made n ss s r w k (inl h) = subst (IsShare (next + 1)) (sym h.1) (record { name = k.name; quota = k.quota; tree = subst (IsTree (next + 1)) (sym k.tree) (new_tree next) })
-share_by next made n ss s r w k (inr e) = share_later next (next + 1) r (omega arith) (w.shares n r e)
-
-names_by : (next made n m : ℕ) (ss : List (ℕ × Share)) (s p r : Share) → AreShares next made ss → IsNewShare next ss s → Was made ss s n p → Was made ss s m r → p.name ≡ r.name → n ≡ m
-unfolding Was
-names_by next made n m ss s p r w k (inl h) (inl g) same = h.0 ∙ sym g.0
-names_by next made n m ss s p r w k (inl h) (inr f) same = absurd (unlike r.name s.name (free s.name m r ss k.free f) (sym same ∙ ap (λ (q : Share). q.name) h.1))
-names_by next made n m ss s p r w k (inr e) (inl g) same = absurd (unlike p.name s.name (free s.name n p ss k.free e) (same ∙ ap (λ (q : Share). q.name) g.1))
-names_by next made n m ss s p r w k (inr e) (inr f) same = w.names n m p r e f same
 
 root_is : (next : ℕ) (s p : Share) (q : ℕ) (x : Slot) → p ≡ s → s.tree ≡ new_nodes next → slot_at p.tree q ≡ Some x → q ≡ next
 root_is next s p q x same tree at = (alone next q x (subst (λ (t : Nodes). slot_at t q ≡ Some x) (ap (λ (r : Share). r.tree) same ∙ tree) at)).0
@@ -113,25 +87,52 @@ root_is next s p q x same tree at = (alone next q x (subst (λ (t : Nodes). slot
 not_next : (next q : ℕ) → q ≡ next → q < next → ⊥
 not_next next q e l = omega (arith, e, l)
 
-apart_by : (next made n m : ℕ) (ss : List (ℕ × Share)) (s p r : Share) (q : ℕ) (x y : Slot) → AreShares next made ss → IsNewShare next ss s → Was made ss s n p → Was made ss s m r
-    → slot_at p.tree q ≡ Some x → slot_at r.tree q ≡ Some y → n ≡ m
-unfolding Was
-apart_by next made n m ss s p r q x y w k (inl h) (inl g) at bt = h.0 ∙ sym g.0
-apart_by next made n m ss s p r q x y w k (inl h) (inr f) at bt = absurd (not_next next q (root_is next s p q x h.1 k.tree at) ((w.shares m r f).tree.ids q y bt).1)
-apart_by next made n m ss s p r q x y w k (inr e) (inl g) at bt = absurd (not_next next q (root_is next s r q y g.1 k.tree bt) ((w.shares n p e).tree.ids q x at).1)
-apart_by next made n m ss s p r q x y w k (inr e) (inr f) at bt = w.apart n m p r q x y e f at bt
+module _ (next made : ℕ) (ss : List (ℕ × Share)) (s : Share) (w : AreShares next made ss) (k : IsNewShare next ss s) where
+  abbrev added : List (ℕ × Share)
+  added = insert_entry nat_cmp ss (made + 1) s
 
--- the shares with one more are whole
-pub shares_added : (next made : ℕ) (ss : List (ℕ × Share)) (s : Share) → AreShares next made ss → IsNewShare next ss s → AreShares (next + 1) (made + 1) (insert_entry nat_cmp ss (made + 1) s)
-shares_added next made ss s w k = record {
-  sorted = inserted_sorted numbers (made + 1) s ss w.sorted;
-  numbers = λ n r e. number_by next made n ss s r w (was made ss s n r e);
-  shares = λ n r e. share_by next made n ss s r w k (was made ss s n r e);
-  names = λ n m p r e f same. names_by next made n m ss s p r w k (was made ss s n p e) (was made ss s m r f) same;
-  apart = λ n m p r q x y e f at bt. apart_by next made n m ss s p r q x y w k (was made ss s n p e) (was made ss s m r f) at bt;
-}
+  -- the new share, or one that stood there
+  abbrev Was : ℕ → Share → Type 0
+  Was n r = ((n ≡ made + 1) × (r ≡ s)) ⊎ (value_at ss n ≡ Some r)
 
+  was : (n : ℕ) (r : Share) → value_at added n ≡ Some r → Was n r
+  was n r e = ⊎_elim
+      (λ (same : n ≡ made + 1). inl (same, sym (same_Some _ _ (sym (inserted numbers (made + 1) s ss) ∙ subst (λ (j : ℕ). value_at added j ≡ Some r) same e))))
+      (λ (ne : n ≢ made + 1). inr (sym (inserted_other numbers (made + 1) s n ss (λ h. ne (sym h))) ∙ e))
+      (cases_eq n (made + 1))
+
+  number_by : (n : ℕ) (r : Share) → Was n r → (1 ≤ n) × (n ≤ made + 1)
+  number_by n r (inl h) = (omega (arith, h.0), omega (arith, h.0))
+  number_by n r (inr e) = let h = w.numbers n r e in (h.0, omega (arith, h.1))
+
+  share_by : (n : ℕ) (r : Share) → Was n r → IsShare (next + 1) r
+  share_by n r (inl h) = subst (IsShare (next + 1)) (sym h.1) (record { name = k.name; quota = k.quota; tree = subst (IsTree (next + 1)) (sym k.tree) (new_tree next) })
+  share_by n r (inr e) = share_later next (next + 1) r (omega arith) (w.shares n r e)
+
+  names_by : (n m : ℕ) (p r : Share) → Was n p → Was m r → p.name ≡ r.name → n ≡ m
+  names_by n m p r (inl h) (inl g) same = h.0 ∙ sym g.0
+  names_by n m p r (inl h) (inr f) same = absurd (unlike r.name s.name (free s.name m r ss k.free f) (sym same ∙ ap (λ (q : Share). q.name) h.1))
+  names_by n m p r (inr e) (inl g) same = absurd (unlike p.name s.name (free s.name n p ss k.free e) (same ∙ ap (λ (q : Share). q.name) g.1))
+  names_by n m p r (inr e) (inr f) same = w.names n m p r e f same
+
+  apart_by : (n m : ℕ) (p r : Share) (q : ℕ) (x y : Slot) → Was n p → Was m r → slot_at p.tree q ≡ Some x → slot_at r.tree q ≡ Some y → n ≡ m
+  apart_by n m p r q x y (inl h) (inl g) at bt = h.0 ∙ sym g.0
+  apart_by n m p r q x y (inl h) (inr f) at bt = absurd (not_next next q (root_is next s p q x h.1 k.tree at) ((w.shares m r f).tree.ids q y bt).1)
+  apart_by n m p r q x y (inr e) (inl g) at bt = absurd (not_next next q (root_is next s r q y g.1 k.tree bt) ((w.shares n p e).tree.ids q x at).1)
+  apart_by n m p r q x y (inr e) (inr f) at bt = w.apart n m p r q x y e f at bt
+
+  -- the shares with one more keep their facts
+  pub shares_added : AreShares (next + 1) (made + 1) added
+  shares_added = record {
+    sorted = inserted_sorted numbers (made + 1) s ss w.sorted;
+    numbers = λ n r e. number_by n r (was n r e);
+    shares = λ n r e. share_by n r (was n r e);
+    names = λ n m p r e f same. names_by n m p r (was n p e) (was m r f) same;
+    apart = λ n m p r q x y e f at bt. apart_by n m p r q x y (was n p e) (was m r f) at bt;
+  }
+
+-- and stand, with their slots
 pub added_stay : (next made : ℕ) (ss : List (ℕ × Share)) (s : Share) → AreShares next made ss → SharesStay ss (insert_entry nat_cmp ss (made + 1) s)
 added_stay next made ss s w = record {
-  stays = λ n r e. let k = w.numbers n r e in (r, inserted_other numbers (made + 1) n s ss (λ (h : made + 1 ≡ n). omega (arith, h, k.1)) ∙ e, slots_same r.tree);
+  stays = λ n r e. let h = w.numbers n r e in (r, inserted_other numbers (made + 1) s n ss (λ (same : made + 1 ≡ n). omega (arith, same, h.1)) ∙ e, slots_same r.tree);
 }

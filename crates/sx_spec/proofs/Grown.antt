@@ -30,189 +30,179 @@ pub record IsRoom (next : ℕ) (t : Nodes) (parent : ℕ) (name : List ℕ) (nod
   pub directory : is_directory slot.node.kind ≡ true
   pub free : lookup (by_name (fold name)) slot.below ≡ None
 
+-- what stands at its id
 abbrev pub new_slot : List ℕ → Node → Slot
 new_slot name node = record { node = node; name = Some name; below = [] }
 
--- ---- what stands where
-Grew : (parent : ℕ) (name : List ℕ) (node : Node) (q : ℕ) (x y : Slot) → Type 0
-Grew parent name node q x y = Became parent (with_child (fold name) node.id) q x y
-
-other_id : (next id q : ℕ) → id ≡ next → q < next → id ≢ q
-other_id next id q e l = λ same. omega (arith, e, l, same)
-
-grown_is : (next : ℕ) (t : Nodes) (parent : ℕ) (name : List ℕ) (node : Node) → IsTree next t → IsRoom next t parent name node → (q : ℕ) (x : Slot) → slot_at t q ≡ Some x
-    → (y : Slot) × (slot_at (with_node t parent name node) q ≡ Some y) × Grew parent name node q x y
-unfolding Grew
-grown_is next t parent name node w k q x at =
-    change_there parent (with_child (fold name) node.id) (insert_entry nat_cmp t.slots node.id (new_slot name node)) q x
-    (inserted_other numbers node.id q (new_slot name node) t.slots (other_id next node.id q k.id (w.ids q x at).1) ∙ at)
-
-pub grown_new : (next : ℕ) (t : Nodes) (parent : ℕ) (name : List ℕ) (node : Node) → IsTree next t → IsRoom next t parent name node → slot_at (with_node t parent name node) node.id ≡ Some (new_slot name node)
-grown_new next t parent name node w k =
-    let (y, at, how) = change_there parent (with_child (fold name) node.id) (insert_entry nat_cmp t.slots node.id (new_slot name node)) node.id (new_slot name node) (inserted numbers node.id (new_slot name node) t.slots) in
-    at ∙ ap (λ (s : Slot). Some s) (⊎_elim (λ (h : (node.id ≢ parent) × (y ≡ new_slot name node)). h.1)
-    (λ (h : (node.id ≡ parent) × (y ≡ with_child (fold name) node.id (new_slot name node))). absurd (other_id next node.id parent k.id (w.ids parent k.slot k.there).1 h.0)) how)
-
--- the new node, or a slot that stood there
-Was : (t : Nodes) (parent : ℕ) (name : List ℕ) (node : Node) (q : ℕ) (y : Slot) → Type 0
-Was t parent name node q y = ((q ≡ node.id) × (y ≡ new_slot name node)) ⊎ ((x : Slot) × (slot_at t q ≡ Some x) × Grew parent name node q x y)
-
-was : (next : ℕ) (t : Nodes) (parent : ℕ) (name : List ℕ) (node : Node) → IsTree next t → IsRoom next t parent name node → (q : ℕ) (y : Slot) → slot_at (with_node t parent name node) q ≡ Some y → Was t parent name node q y
-unfolding Was Grew
-was next t parent name node w k q y e = ⊎_elim
-    (λ (same : q ≡ node.id). inl (same, same_Some _ _ (sym (subst (λ (j : ℕ). slot_at (with_node t parent name node) j ≡ Some y) same e) ∙ grown_new next t parent name node w k)))
-    (λ (ne : q ≢ node.id).
-    let (x, at, how) = change_back parent (with_child (fold name) node.id) (insert_entry nat_cmp t.slots node.id (new_slot name node)) q y e in
-    inr (x, sym (inserted_other numbers node.id q (new_slot name node) t.slots (λ h. ne (sym h))) ∙ at, how))
-    (cases_eq q node.id)
-
-same_node : (parent : ℕ) (name : List ℕ) (node : Node) (q : ℕ) (x y : Slot) → Grew parent name node q x y → (y.node ≡ x.node) × (y.name ≡ x.name)
-unfolding Grew
-same_node parent name node q x y (inl h) = (ap (λ (s : Slot). s.node) h.1, ap (λ (s : Slot). s.name) h.1)
-same_node parent name node q x y (inr h) = (ap (λ (s : Slot). s.node) h.1, ap (λ (s : Slot). s.name) h.1)
-
--- ---- names
 -- a name that is listed is another one than the free one
-not_free : (name nm : List ℕ) (below : List (List ℕ × ℕ)) (child : ℕ) → lookup (by_name name) below ≡ None → lookup (by_name nm) below ≡ Some child → name ≢ nm
-not_free name nm below child none some = λ same. none_some child (sym none ∙ ap (λ (k : List ℕ). lookup (by_name k) below) same ∙ some)
-
-still_listed : (next : ℕ) (t : Nodes) (parent : ℕ) (name : List ℕ) (node : Node) → IsRoom next t parent name node → (q : ℕ) (x y : Slot) (nm : List ℕ) (child : ℕ) → slot_at t q ≡ Some x → Grew parent name node q x y
-    → lookup (by_name nm) x.below ≡ Some child → lookup (by_name nm) y.below ≡ Some child
-unfolding Grew
-still_listed next t parent name node k q x y nm child at (inl h) e = ap (λ (s : Slot). lookup (by_name nm) s.below) h.1 ∙ e
-still_listed next t parent name node k q x y nm child at (inr h) e =
-    let is : k.slot ≡ x = same_Some _ _ (sym k.there ∙ subst (λ (j : ℕ). slot_at t j ≡ Some x) h.0 at) in
-    let free : lookup (by_name (fold name)) x.below ≡ None = ap (λ (s : Slot). lookup (by_name (fold name)) s.below) (sym is) ∙ k.free in
-    ap (λ (s : Slot). lookup (by_name nm) s.below) h.1 ∙ inserted_other names (fold name) nm node.id x.below (not_free (fold name) nm x.below child free e) ∙ e
-
-new_listed : (parent : ℕ) (name : List ℕ) (node : Node) (x y : Slot) → Grew parent name node parent x y → lookup (by_name (fold name)) y.below ≡ Some node.id
-unfolding Grew
-new_listed parent name node x y (inl h) = absurd (h.0 refl)
-new_listed parent name node x y (inr h) = ap (λ (s : Slot). lookup (by_name (fold name)) s.below) h.1 ∙ inserted names (fold name) node.id x.below
-
--- ---- the tree
-child_by : (next : ℕ) (t : Nodes) (parent : ℕ) (name : List ℕ) (node : Node) → IsTree next t → IsRoom next t parent name node → (q : ℕ) (y : Slot) → q ≢ t.root → Was t parent name node q y → IsChild (with_node t parent name node) q y
-unfolding Was
-child_by next t parent name node w k q y ne (inl h) =
-    let (p, at, grew) = grown_is next t parent name node w k parent k.slot k.there in
-    rw (h.0, h.1) (record {
-      name = name;
-      named = refl;
-      part = k.part;
-      parent = p;
-      there = ap (λ (j : ℕ). slot_at (with_node t parent name node) j) k.above ∙ at;
-      directory = ap (λ (n : Node). is_directory n.kind) (same_node parent name node parent k.slot p grew).0 ∙ k.directory;
-      listed = new_listed parent name node k.slot p grew;
-      earlier = let l = (w.ids parent k.slot k.there).1 in omega (arith, l, k.above, k.id);
-    })
-child_by next t parent name node w k q y ne (inr (x, at, grew)) =
-    let c = w.children q x at ne in
-    let (p, there, grew') = grown_is next t parent name node w k x.node.parent c.parent c.there in
-    let same = same_node parent name node q x y grew in
-    let above : y.node.parent ≡ x.node.parent = ap (λ (n : Node). n.parent) same.0 in
-    record {
-      name = c.name;
-      named = same.1 ∙ c.named;
-      part = c.part;
-      parent = p;
-      there = rw above there;
-      directory = ap (λ (n : Node). is_directory n.kind) (same_node parent name node x.node.parent c.parent p grew').0 ∙ c.directory;
-      listed = still_listed next t parent name node k x.node.parent c.parent p (fold c.name) q c.there grew' c.listed;
-      earlier = omega (arith, c.earlier, above);
-    }
-
-file_by : (next : ℕ) (t : Nodes) (parent : ℕ) (name : List ℕ) (node : Node) → IsTree next t → IsRoom next t parent name node → (q : ℕ) (y : Slot) → is_directory y.node.kind ≡ false → Was t parent name node q y → y.below ≡ []
-unfolding Was Grew
-file_by next t parent name node w k q y file (inl h) = ap (λ (s : Slot). s.below) h.1
-file_by next t parent name node w k q y file (inr (x, at, (inl h))) = ap (λ (s : Slot). s.below) h.1 ∙ w.files q x at (ap (λ (s : Slot). is_directory s.node.kind) (sym h.1) ∙ file)
-file_by next t parent name node w k q y file (inr (x, at, (inr h))) =
-    let is : k.slot ≡ x = same_Some _ _ (sym k.there ∙ subst (λ (j : ℕ). slot_at t j ≡ Some x) h.0 at) in
-    absurd (true_false (sym k.directory ∙ ap (λ (s : Slot). is_directory s.node.kind) (is) ∙ ap (λ (s : Slot). is_directory s.node.kind) (sym h.1) ∙ file))
-
-names_by : (next : ℕ) (t : Nodes) (parent : ℕ) (name : List ℕ) (node : Node) → IsTree next t → (q : ℕ) (y : Slot) → Was t parent name node q y → IsStrictlySortedBy (slice_cmp nat_cmp) (keys_of y.below)
-unfolding Was Grew IsStrictlySortedBy
-names_by next t parent name node w q y (inl h) = subst (λ (s : Slot). IsStrictlySortedBy (slice_cmp nat_cmp) (keys_of s.below)) (sym h.1) tt
-names_by next t parent name node w q y (inr (x, at, (inl h))) = subst (λ (s : Slot). IsStrictlySortedBy (slice_cmp nat_cmp) (keys_of s.below)) (sym h.1) (w.names q x at)
-names_by next t parent name node w q y (inr (x, at, (inr h))) = subst (λ (s : Slot). IsStrictlySortedBy (slice_cmp nat_cmp) (keys_of s.below)) (sym h.1) (inserted_sorted names (fold name) node.id x.below (w.names q x at))
-
-listed_by : (next : ℕ) (t : Nodes) (parent : ℕ) (name : List ℕ) (node : Node) → IsTree next t → IsRoom next t parent name node → (q : ℕ) (nm : List ℕ) (child : ℕ) → IsListed t q nm child → IsListed (with_node t parent name node) q nm child
-listed_by next t parent name node w k q nm child l =
-    let (y, at, grew) = grown_is next t parent name node w k child l.slot l.there in
-    let same = same_node parent name node child l.slot y grew in
-    record {
-      slot = y;
-      there = at;
-      parent = ap (λ (n : Node). n.parent) same.0 ∙ l.parent;
-      kept = l.kept;
-      named = same.1 ∙ l.named;
-      folded = l.folded;
-    }
+not_free : (name listed : List ℕ) (below : List (List ℕ × ℕ)) (child : ℕ) → lookup (by_name name) below ≡ None → lookup (by_name listed) below ≡ Some child → name ≢ listed
+not_free name listed below child none some = λ same. none_some child (sym none ∙ ap (λ (k : List ℕ). lookup (by_name k) below) same ∙ some)
 
 -- two names are the same or differ
 names_differ : (a b : List ℕ) (same : Bool) → bytes_eq a b ≡ same → (a ≡ b) ⊎ (a ≢ b)
 names_differ a b true is = inl ((bytes_eq-Decides a b).0 is)
 names_differ a b false is = inr (not_from_Decides (bytes_eq a b) (bytes_eq-Decides a b) is)
 
-below_by : (next : ℕ) (t : Nodes) (parent : ℕ) (name : List ℕ) (node : Node) → IsTree next t → IsRoom next t parent name node → (q : ℕ) (y : Slot) (nm : List ℕ) (child : ℕ) → Was t parent name node q y
-    → lookup (by_name nm) y.below ≡ Some child → IsListed (with_node t parent name node) q nm child
-unfolding Was Grew
-below_by next t parent name node w k q y nm child (inl h) e = absurd (none_some child (ap (λ (s : Slot). lookup (by_name nm) s.below) (sym h.1) ∙ e))
-below_by next t parent name node w k q y nm child (inr (x, at, (inl h))) e =
-    listed_by next t parent name node w k q nm child (w.below q x nm child at (ap (λ (s : Slot). lookup (by_name nm) s.below) (sym h.1) ∙ e))
-below_by next t parent name node w k q y nm child (inr (x, at, (inr h))) e =
-    let there : lookup (by_name nm) (insert_entry (slice_cmp nat_cmp) x.below (fold name) node.id) ≡ Some child = ap (λ (s : Slot). lookup (by_name nm) s.below) (sym h.1) ∙ e in
-    ⊎_elim
-    (λ (same : fold name ≡ nm).
-    let is : node.id ≡ child = same_Some _ _ (sym (inserted names (fold name) node.id x.below) ∙ ap (λ (j : List ℕ). lookup (by_name j) (insert_entry (slice_cmp nat_cmp) x.below (fold name) node.id)) same ∙ there) in
-    subst (λ (j : ℕ). IsListed (with_node t parent name node) q nm j) is
-    (record {
-      slot = new_slot name node;
-      there = grown_new next t parent name node w k;
-      parent = k.above ∙ sym h.0;
-      kept = name;
-      named = refl;
-      folded = same;
-    }))
-    (λ (ne : fold name ≢ nm). listed_by next t parent name node w k q nm child (w.below q x nm child at (sym (inserted_other names (fold name) nm node.id x.below ne) ∙ there)))
-    (names_differ (fold name) nm (bytes_eq (fold name) nm) refl)
+module _ (next : ℕ) (t : Nodes) (parent : ℕ) (name : List ℕ) (node : Node) (w : IsTree next t) (k : IsRoom next t parent name node) where
+  -- ---- what stands where
+  abbrev grown : Nodes
+  grown = with_node t parent name node
 
-id_by : (next : ℕ) (t : Nodes) (parent : ℕ) (name : List ℕ) (node : Node) → IsTree next t → IsRoom next t parent name node → (q : ℕ) (y : Slot) → Was t parent name node q y → (y.node.id ≡ q) × (q < next + 1)
-unfolding Was
-id_by next t parent name node w k q y (inl h) = (ap (λ (s : Slot). s.node.id) h.1 ∙ sym h.0, omega (arith, h.0, k.id))
-id_by next t parent name node w k q y (inr (x, at, grew)) = let l = w.ids q x at in (ap (λ (n : Node). n.id) (same_node parent name node q x y grew).0 ∙ l.0, omega (arith, l.1))
+  -- a slot before and after
+  abbrev Grew : ℕ → Slot → Slot → Type 0
+  Grew q x y = Became parent (with_child (fold name) node.id) q x y
 
-grown_root : (next : ℕ) (t : Nodes) (parent : ℕ) (name : List ℕ) (node : Node) → IsTree next t → IsRoom next t parent name node
-    → (x : Slot) × (slot_at (with_node t parent name node) t.root ≡ Some x) × (is_directory x.node.kind ≡ true) × (x.name ≡ None)
-grown_root next t parent name node w k =
-    let (x, there, directory, none) = w.root in
-    let (y, at, grew) = grown_is next t parent name node w k t.root x there in
-    let same = same_node parent name node t.root x y grew in
-    (y, at, ap (λ (n : Node). is_directory n.kind) same.0 ∙ directory, same.1 ∙ none)
+  -- the new node, or a slot that stood there
+  abbrev Was : ℕ → Slot → Type 0
+  Was q y = ((q ≡ node.id) × (y ≡ new_slot name node)) ⊎ ((x : Slot) × (slot_at t q ≡ Some x) × Grew q x y)
 
-pub grown_tree : (next : ℕ) (t : Nodes) (parent : ℕ) (name : List ℕ) (node : Node) → IsTree next t → IsRoom next t parent name node → IsTree (next + 1) (with_node t parent name node)
-grown_tree next t parent name node w k = record {
-  sorted = rw (change_keys parent (with_child (fold name) node.id) (insert_entry nat_cmp t.slots node.id (new_slot name node))) (inserted_sorted numbers node.id (new_slot name node) t.slots w.sorted);
-  root = grown_root next t parent name node w k;
-  ids = λ q y e. id_by next t parent name node w k q y (was next t parent name node w k q y e);
-  children = λ q y e ne. child_by next t parent name node w k q y ne (was next t parent name node w k q y e);
-  files = λ q y e file. file_by next t parent name node w k q y file (was next t parent name node w k q y e);
-  names = λ q y e. names_by next t parent name node w q y (was next t parent name node w k q y e);
-  below = λ q y nm child e at. below_by next t parent name node w k q y nm child (was next t parent name node w k q y e) at;
-}
+  abbrev put : List (ℕ × Slot)
+  put = insert_entry nat_cmp t.slots node.id (new_slot name node)
 
-old_by : (next : ℕ) (t : Nodes) (parent : ℕ) (name : List ℕ) (node : Node) → IsRoom next t parent name node → (q : ℕ) (y : Slot) → Was t parent name node q y → (next ≤ q) ⊎ ((x : Slot) × (slot_at t q ≡ Some x))
-unfolding Was
-old_by next t parent name node k q y (inl h) = inl (omega (arith, h.0, k.id))
-old_by next t parent name node k q y (inr (x, at, grew)) = inr (x, at)
+  other_id : (q : ℕ) → q < next → node.id ≢ q
+  other_id q l = λ same. omega (arith, k.id, l, same)
 
--- the tree with a node more goes on
-pub grown_goes : (next : ℕ) (t : Nodes) (parent : ℕ) (name : List ℕ) (node : Node) → IsTree next t → IsRoom next t parent name node → TreeGoes next (next + 1) t (with_node t parent name node)
-grown_goes next t parent name node w k = record {
-  tree = grown_tree next t parent name node w k;
-  old = λ q y e. old_by next t parent name node k q y (was next t parent name node w k q y e);
-  stay = record {
-    stays = λ q x e.
-        let (y, at, grew) = grown_is next t parent name node w k q x e in
-        (y, at, ap (λ (n : Node). is_directory n.kind) (same_node parent name node q x y grew).0);
-  };
-}
+  -- what stood at an id stands there, grown in the directory alone
+  grown_is : (q : ℕ) (x : Slot) → slot_at t q ≡ Some x → (y : Slot) × (slot_at grown q ≡ Some y) × Grew q x y
+  grown_is q x at = change_there parent (with_child (fold name) node.id) put q x (inserted_other numbers node.id (new_slot name node) q t.slots (other_id q (w.ids q x at).1) ∙ at)
+
+  -- the new node stands at its id
+  pub grown_new : slot_at grown node.id ≡ Some (new_slot name node)
+  grown_new =
+      let (y, at, how) = change_there parent (with_child (fold name) node.id) put node.id (new_slot name node) (inserted numbers node.id (new_slot name node) t.slots) in
+      at ∙ ap (λ (s : Slot). Some s) (⊎_elim (λ (h : (node.id ≢ parent) × (y ≡ new_slot name node)). h.1)
+      (λ (h : (node.id ≡ parent) × (y ≡ with_child (fold name) node.id (new_slot name node))). absurd (other_id parent (w.ids parent k.slot k.there).1 h.0)) how)
+
+  was : (q : ℕ) (y : Slot) → slot_at grown q ≡ Some y → Was q y
+  was q y e = ⊎_elim
+      (λ (same : q ≡ node.id). inl (same, same_Some _ _ (sym (subst (λ (j : ℕ). slot_at grown j ≡ Some y) same e) ∙ grown_new)))
+      (λ (ne : q ≢ node.id).
+      let (x, at, how) = change_back parent (with_child (fold name) node.id) put q y e in
+      inr (x, sym (inserted_other numbers node.id (new_slot name node) q t.slots (λ h. ne (sym h))) ∙ at, how))
+      (cases_eq q node.id)
+
+  same_node : (q : ℕ) (x y : Slot) → Grew q x y → (y.node ≡ x.node) × (y.name ≡ x.name)
+  same_node q x y (inl h) = (ap (λ (s : Slot). s.node) h.1, ap (λ (s : Slot). s.name) h.1)
+  same_node q x y (inr h) = (ap (λ (s : Slot). s.node) h.1, ap (λ (s : Slot). s.name) h.1)
+
+  same_kind : (q : ℕ) (x y : Slot) → Grew q x y → is_directory y.node.kind ≡ is_directory x.node.kind
+  same_kind q x y grew = ap (λ (n : Node). is_directory n.kind) (same_node q x y grew).0
+
+  -- what stands at the directory's id is the directory
+  parent_is : (q : ℕ) (x : Slot) → q ≡ parent → slot_at t q ≡ Some x → k.slot ≡ x
+  parent_is q x same at = same_Some _ _ (sym k.there ∙ subst (λ (j : ℕ). slot_at t j ≡ Some x) same at)
+
+  -- ---- names
+  still_listed : (q : ℕ) (x y : Slot) (listed : List ℕ) (child : ℕ) → slot_at t q ≡ Some x → Grew q x y → lookup (by_name listed) x.below ≡ Some child → lookup (by_name listed) y.below ≡ Some child
+  still_listed q x y listed child at (inl h) e = ap (λ (s : Slot). lookup (by_name listed) s.below) h.1 ∙ e
+  still_listed q x y listed child at (inr h) e =
+      let free : lookup (by_name (fold name)) x.below ≡ None = ap (λ (s : Slot). lookup (by_name (fold name)) s.below) (sym (parent_is q x h.0 at)) ∙ k.free in
+      ap (λ (s : Slot). lookup (by_name listed) s.below) h.1 ∙ inserted_other names (fold name) node.id listed x.below (not_free (fold name) listed x.below child free e) ∙ e
+
+  new_listed : (x y : Slot) → Grew parent x y → lookup (by_name (fold name)) y.below ≡ Some node.id
+  new_listed x y (inl h) = absurd (h.0 refl)
+  new_listed x y (inr h) = ap (λ (s : Slot). lookup (by_name (fold name)) s.below) h.1 ∙ inserted names (fold name) node.id x.below
+
+  listed_by : (q : ℕ) (listed : List ℕ) (child : ℕ) → IsListed t q listed child → IsListed grown q listed child
+  listed_by q listed child l =
+      let (y, at, grew) = grown_is child l.slot l.there in
+      let same = same_node child l.slot y grew in
+      record {
+        slot = y;
+        there = at;
+        parent = ap (λ (n : Node). n.parent) same.0 ∙ l.parent;
+        kept = l.kept;
+        named = same.1 ∙ l.named;
+        folded = l.folded;
+      }
+
+  -- ---- the facts of the tree
+  root_by : (x : Slot) × (slot_at grown t.root ≡ Some x) × (is_directory x.node.kind ≡ true) × (x.name ≡ None)
+  root_by =
+      let (x, there, directory, none) = w.root in
+      let (y, at, grew) = grown_is t.root x there in
+      (y, at, same_kind t.root x y grew ∙ directory, (same_node t.root x y grew).1 ∙ none)
+
+  id_by : (q : ℕ) (y : Slot) → Was q y → (y.node.id ≡ q) × (q < next + 1)
+  id_by q y (inl h) = (ap (λ (s : Slot). s.node.id) h.1 ∙ sym h.0, omega (arith, h.0, k.id))
+  id_by q y (inr (x, at, grew)) = let l = w.ids q x at in (ap (λ (n : Node). n.id) (same_node q x y grew).0 ∙ l.0, omega (arith, l.1))
+
+  child_by : (q : ℕ) (y : Slot) → q ≢ t.root → Was q y → IsChild grown q y
+  child_by q y ne (inl h) =
+      let (p, at, grew) = grown_is parent k.slot k.there in
+      rw (h.0, h.1) (record {
+        name = name;
+        named = refl;
+        part = k.part;
+        parent = p;
+        there = ap (λ (j : ℕ). slot_at grown j) k.above ∙ at;
+        directory = same_kind parent k.slot p grew ∙ k.directory;
+        listed = new_listed k.slot p grew;
+        earlier = let l = (w.ids parent k.slot k.there).1 in omega (arith, l, k.above, k.id);
+      })
+  child_by q y ne (inr (x, at, grew)) =
+      let c = w.children q x at ne in
+      let (p, there, grew') = grown_is x.node.parent c.parent c.there in
+      let same = same_node q x y grew in
+      let above : y.node.parent ≡ x.node.parent = ap (λ (n : Node). n.parent) same.0 in
+      record {
+        name = c.name;
+        named = same.1 ∙ c.named;
+        part = c.part;
+        parent = p;
+        there = rw above there;
+        directory = same_kind x.node.parent c.parent p grew' ∙ c.directory;
+        listed = still_listed x.node.parent c.parent p (fold c.name) q c.there grew' c.listed;
+        earlier = omega (arith, c.earlier, above);
+      }
+
+  file_by : (q : ℕ) (y : Slot) → is_directory y.node.kind ≡ false → Was q y → y.below ≡ []
+  file_by q y file (inl h) = ap (λ (s : Slot). s.below) h.1
+  file_by q y file (inr (x, at, (inl h))) = ap (λ (s : Slot). s.below) h.1 ∙ w.files q x at (ap (λ (s : Slot). is_directory s.node.kind) (sym h.1) ∙ file)
+  file_by q y file (inr (x, at, (inr h))) =
+      absurd (true_false (sym k.directory ∙ ap (λ (s : Slot). is_directory s.node.kind) (parent_is q x h.0 at) ∙ ap (λ (s : Slot). is_directory s.node.kind) (sym h.1) ∙ file))
+
+  names_by : (q : ℕ) (y : Slot) → Was q y → IsStrictlySortedBy (slice_cmp nat_cmp) (keys_of y.below)
+  unfolding IsStrictlySortedBy
+  names_by q y (inl h) = subst (λ (s : Slot). IsStrictlySortedBy (slice_cmp nat_cmp) (keys_of s.below)) (sym h.1) tt
+  names_by q y (inr (x, at, (inl h))) = subst (λ (s : Slot). IsStrictlySortedBy (slice_cmp nat_cmp) (keys_of s.below)) (sym h.1) (w.names q x at)
+  names_by q y (inr (x, at, (inr h))) =
+      subst (λ (s : Slot). IsStrictlySortedBy (slice_cmp nat_cmp) (keys_of s.below)) (sym h.1) (inserted_sorted names (fold name) node.id x.below (w.names q x at))
+
+  below_by : (q : ℕ) (y : Slot) (listed : List ℕ) (child : ℕ) → Was q y → lookup (by_name listed) y.below ≡ Some child → IsListed grown q listed child
+  below_by q y listed child (inl h) e = absurd (none_some child (ap (λ (s : Slot). lookup (by_name listed) s.below) (sym h.1) ∙ e))
+  below_by q y listed child (inr (x, at, (inl h))) e = listed_by q listed child (w.below q x listed child at (ap (λ (s : Slot). lookup (by_name listed) s.below) (sym h.1) ∙ e))
+  below_by q y listed child (inr (x, at, (inr h))) e =
+      let more : List (List ℕ × ℕ) = insert_entry (slice_cmp nat_cmp) x.below (fold name) node.id in
+      let there : lookup (by_name listed) more ≡ Some child = ap (λ (s : Slot). lookup (by_name listed) s.below) (sym h.1) ∙ e in
+      ⊎_elim
+      (λ (same : fold name ≡ listed).
+      let is : node.id ≡ child = same_Some _ _ (sym (inserted names (fold name) node.id x.below) ∙ ap (λ (j : List ℕ). lookup (by_name j) more) same ∙ there) in
+      subst (λ (j : ℕ). IsListed grown q listed j) is
+      (record { slot = new_slot name node; there = grown_new; parent = k.above ∙ sym h.0; kept = name; named = refl; folded = same }))
+      (λ (ne : fold name ≢ listed). listed_by q listed child (w.below q x listed child at (sym (inserted_other names (fold name) node.id listed x.below ne) ∙ there)))
+      (names_differ (fold name) listed (bytes_eq (fold name) listed) refl)
+
+  -- the tree with one node more is a tree up to the next id
+  pub grown_tree : IsTree (next + 1) grown
+  grown_tree = record {
+    sorted = rw (change_keys parent (with_child (fold name) node.id) put) (inserted_sorted numbers node.id (new_slot name node) t.slots w.sorted);
+    root = root_by;
+    ids = λ q y e. id_by q y (was q y e);
+    children = λ q y e ne. child_by q y ne (was q y e);
+    files = λ q y e file. file_by q y file (was q y e);
+    names = λ q y e. names_by q y (was q y e);
+    below = λ q y listed child e at. below_by q y listed child (was q y e) at;
+  }
+
+  old_by : (q : ℕ) (y : Slot) → Was q y → (next ≤ q) ⊎ ((x : Slot) × (slot_at t q ≡ Some x))
+  old_by q y (inl h) = inl (omega (arith, h.0, k.id))
+  old_by q y (inr (x, at, grew)) = inr (x, at)
+
+  -- and it goes on from the tree before
+  pub grown_goes : TreeGoes next (next + 1) t grown
+  grown_goes = record {
+    tree = grown_tree;
+    old = λ q y e. old_by q y (was q y e);
+    stay = record { stays = λ q x e. let (y, at, grew) = grown_is q x e in (y, at, same_kind q x y grew) };
+  }

@@ -4,9 +4,11 @@ use Rattle.std.specs.List.{AllByRecursion, filter, find}
 use Rattle.std.proofs.lemmas.Option.{same_Some}
 use Rattle.sx_base.specs.Entries.{change}
 
+-- `true` and `false` differ
 pub true_false : true ≡ false → ⊥
 true_false e = search rules
 
+-- `None` and `Some` differ
 pub none_some : {X : Type 0} (x : X) → None ≡ Some x → ⊥
 none_some x e = search rules
 

@@ -28,20 +28,15 @@ pub record AreOpens (ls : List Live) (ss : List (ℕ × Share)) (os : List Open)
   pub order : AreInOrder os
   pub opens : AllByRecursion (IsOpen ls ss) os
 
+-- they stay where nothing changes
 pub slots_same : (t : Nodes) → SlotsStay t t
 slots_same t = record { stays = λ q x e. (x, e, refl) }
 
+-- they stay where nothing changes
 pub shares_same : (ss : List (ℕ × Share)) → SharesStay ss ss
 shares_same ss = record { stays = λ n s e. (s, e, slots_same s.tree) }
 
-pub shares_then : (ss rs qs : List (ℕ × Share)) → SharesStay ss rs → SharesStay rs qs → SharesStay ss qs
-shares_then ss rs qs a b = record {
-  stays = λ n s e.
-      let (r, at, more) = a.stays n s e in
-      let (q, at', more') = b.stays n r at in
-      (q, at', record { stays = λ k x f. let (y, g, same) = more.stays k x f in let (z, h, same') = more'.stays k y g in (z, h, same' ∙ same) });
-}
-
+-- an open keeps its facts over sessions and shares that stay
 pub open_stays : (ls ks : List Live) (ss rs : List (ℕ × Share)) → SessionsStay ls ks → SharesStay ss rs → (o : Open) → IsOpen ls ss o → IsOpen ks rs o
 open_stays ls ks ss rs a b o w =
     let (k, at, more) = a.stays o.handle.session w.live w.session in
@@ -60,6 +55,7 @@ open_stays ls ks ss rs a b o w =
       moment = w.moment;
     }
 
+-- and so do all opens
 pub opens_stay : (ls ks : List Live) (ss rs : List (ℕ × Share)) (os : List Open) → SessionsStay ls ks → SharesStay ss rs → AreOpens ls ss os → AreOpens ks rs os
 opens_stay ls ks ss rs os a b w = record { order = w.order; opens = all_map (IsOpen ls ss) (IsOpen ks rs) (open_stays ls ks ss rs a b) os w.opens }
 
@@ -96,7 +92,7 @@ opens_ended ls ss n os w = record {
       (all_filter (IsOpen ls ss) (λ o. not (is_of_session n o)) os w.opens) (all_pass (λ o. not (is_of_session n o)) os);
 }
 
--- one more, of a session whose opens have lesser indexes
+-- a session's opens have lesser indexes than its next one
 differs : (ls : List Live) (ss : List (ℕ × Share)) (o : Open) (l : Live) → find (is_session o.handle.session) ls ≡ Some l → o.handle.index ≡ l.granted + 1
     → (q : Open) → IsOpen ls ss q → is_before o.handle q.handle ≡ false → is_before q.handle o.handle ≡ true
 differs ls ss o l at next q w = λ e. ⊎_elim
@@ -107,6 +103,7 @@ differs ls ss o l at next q w = λ e. ⊎_elim
     (λ (ne : o.handle.session ≢ q.handle.session). before_other o.handle q.handle (inl ne) e)
     (cases_eq o.handle.session q.handle.session)
 
+-- one more of a session, with its next index, over sessions and shares that stay
 pub opens_more : (ls : List Live) (ss : List (ℕ × Share)) (o : Open) (l : Live) (os : List Open) → find (is_session o.handle.session) ls ≡ Some l → o.handle.index ≡ l.granted + 1
     → AreOpens ls ss os → (ks : List Live) (rs : List (ℕ × Share)) → SessionsStay ls ks → SharesStay ss rs → IsOpen ks rs o → AreOpens ks rs (with_open o os)
 opens_more ls ss o l os at next w ks rs a b new = record {

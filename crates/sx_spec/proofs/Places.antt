@@ -22,11 +22,11 @@ use Rattle.sx_tree.specs.declared.node.Found.{Found}
 use Rattle.sx_tree.specs.declared.node.Found.TheVariants as found
 use Rattle.sx_tree.specs.declared.share.Share.{Share}
 use Rattle.sx_tree.specs.Files.{is_directory}
-use Rattle.sx_tree.specs.Nodes.{Nodes, Slot, slot_at, node_at, found_in, with_node}
+use Rattle.sx_tree.specs.Nodes.{Slot, slot_at, node_at, found_in, with_node}
 use Rattle.sx_spec.specs.Account.{Account, session_of, has_name, share_named, place_of, node_in}
 use Rattle.sx_spec.specs.FirstRefusal.{first_of, first_open, file_wanted}
 use Rattle.sx_spec.specs.Step.{came_one, new_file, with_file, opened, opens_at, opens_in}
-use Rattle.sx_spec.specs.Whole.{IsWhole}
+use Rattle.sx_spec.specs.Whole.{IsTree, IsWhole}
 use Rattle.sx_spec.proofs.Inserts.{numbers, here, apart}
 use Rattle.sx_spec.proofs.Lists.{none_some}
 use Rattle.sx_spec.proofs.Lookups.{change_there}
@@ -80,91 +80,88 @@ node_is a n id s x e at = ap (λ (o : Option Share). option_and_then (λ r. node
 file_found : (a : Account) (how : How) (n id : ℕ) (s : Share) (x : Slot) → value_at a.shares n ≡ Some s → slot_at s.tree id ≡ Some x → first_open a how (Some (n, found.Node id)) ≡ None → is_directory x.node.kind ≡ false
 file_found a how n id s x e at passed = file_by (is_directory x.node.kind) (refusal.IsDirectory id) (sym (ap (file_wanted id) (node_is a n id s x e at)) ∙ node_passed a how n id passed)
 
--- ---- an open of a file that is there
-node_whole : (a : Account) (at session : ℕ) (live : Live) (path : List (List ℕ)) (access : Access) (mode : Mode) (how : How) (n id : ℕ) (s : Share) → IsWhole a → session_of a session ≡ Some live → at ≤ greatest_moment
-    → value_at a.shares n ≡ Some s → found_in s.tree path ≡ found.Node id → first_open a how (Some (n, found.Node id)) ≡ None → IsWhole (came_one (opened a at session n id access mode))
-node_whole a at session live path access mode how n id s w found early there is passed =
-    let (x, stands) = path_node a.next_id s.tree path id (w.shares n s there).tree is in
-    open_whole a at session a.next_id a.shares n id access mode w (record {
-      live = live;
-      found = found;
-      moment = early;
-      least = omega arith;
-      most = omega arith;
-      shares = shares_in a w;
-      stay = shares_same a.shares;
-      value = s;
-      there = there;
-      slot = x;
-      stands = stands;
-      file = file_found a how n id s x there stands passed;
-    })
-
--- ---- an open of a new file
-room : (a : Account) (d : ℕ) (path : List (List ℕ)) (t : Nodes) (f : IsFree t d path) → IsRoom a.next_id t d f.name (new_file a.next_id d)
-room a d path t f = record { id = refl; above = refl; part = f.part; slot = f.slot; there = f.there; directory = f.directory; free = f.free }
-
-file_goes : (a : Account) (d : ℕ) (path : List (List ℕ)) (n : ℕ) (s : Share) (f : IsFree s.tree d path) → IsWhole a → value_at a.shares n ≡ Some s
-    → ShareGoes a.next_id (a.next_id + 1) s (record s { tree = with_node s.tree d f.name (new_file a.next_id d) })
-file_goes a d path n s f w there = record {
-  name = refl;
-  quota = refl;
-  tree = grown_goes a.next_id s.tree d f.name (new_file a.next_id d) (w.shares n s there).tree (room a d path s.tree f);
-}
-
+-- ---- the share with one file more
 with_new : ℕ → ℕ → List ℕ → Share → Share
 with_new next d name s = record s { tree = with_node s.tree d name (new_file next d) }
 
-file_changes : (a : Account) (d : ℕ) (path : List (List ℕ)) (n : ℕ) (s : Share) (f : IsFree s.tree d path) → IsWhole a → value_at a.shares n ≡ Some s
-    → Changes a.next_id (a.next_id + 1) n (with_new a.next_id d f.name) a.shares
-unfolding with_new
-file_changes a d path n s f w there = record {
-  no_less = omega arith;
-  goes = λ r e. subst (λ (q : Share). ShareGoes a.next_id (a.next_id + 1) q (with_new a.next_id d f.name q)) (same_Some _ _ (sym there ∙ e)) (file_goes a d path n s f w there);
-}
+module _ (a : Account) (w : IsWhole a) (path : List (List ℕ)) (n d : ℕ) (s : Share) (there : value_at a.shares n ≡ Some s) (f : IsFree s.tree d path) where
+  tree : IsTree a.next_id s.tree
+  tree = (w.shares n s there).tree
 
-file_there : (a : Account) (d : ℕ) (name : List ℕ) (n : ℕ) (s : Share) → value_at a.shares n ≡ Some s → value_at (change_at n (with_new a.next_id d name) a.shares) n ≡ Some (with_new a.next_id d name s)
-file_there a d name n s there =
-    let (y, at, how) = change_there n (with_new a.next_id d name) a.shares n s there in
-    at ∙ ap (λ (r : Share). Some r) (⊎_elim (λ (h : (n ≢ n) × (y ≡ s)). absurd (h.0 refl)) (λ (h : (n ≡ n) × (y ≡ with_new a.next_id d name s)). h.1) how)
+  room : IsRoom a.next_id s.tree d f.name (new_file a.next_id d)
+  room = record { id = refl; above = refl; part = f.part; slot = f.slot; there = f.there; directory = f.directory; free = f.free }
 
-missing_whole : (a : Account) (at session : ℕ) (live : Live) (path : List (List ℕ)) (access : Access) (mode : Mode) (n d : ℕ) (s : Share) → IsWhole a → session_of a session ≡ Some live → at ≤ greatest_moment
-    → value_at a.shares n ≡ Some s → (f : IsFree s.tree d path) → IsWhole (came_one (opened (with_file a n d f.name) at session n a.next_id access mode))
-unfolding with_new
-missing_whole a at session live path access mode n d s w found early there f =
-    let k = file_changes a d path n s f w there in
-    open_whole a at session (a.next_id + 1) (change_at n (with_new a.next_id d f.name) a.shares) n a.next_id access mode w (record {
-      live = live;
-      found = found;
-      moment = early;
-      least = omega arith;
-      most = omega arith;
-      shares = shares_changed a.next_id (a.next_id + 1) a.made n (with_new a.next_id d f.name) a.shares (shares_in a w) k;
-      stay = changed_stay a.next_id (a.next_id + 1) a.made n (with_new a.next_id d f.name) a.shares (shares_in a w) k;
-      value = with_new a.next_id d f.name s;
-      there = file_there a d f.name n s there;
-      slot = new_slot f.name (new_file a.next_id d);
-      stands = grown_new a.next_id s.tree d f.name (new_file a.next_id d) (w.shares n s there).tree (room a d path s.tree f);
-      file = refl;
-    })
+  file_goes : ShareGoes a.next_id (a.next_id + 1) s (with_new a.next_id d f.name s)
+  unfolding with_new tree room
+  file_goes = record { name = refl; quota = refl; tree = grown_goes a.next_id s.tree d f.name (new_file a.next_id d) tree room }
 
--- ---- an open
-by_found : (a : Account) (at session : ℕ) (live : Live) (path : List (List ℕ)) (access : Access) (mode : Mode) (how : How) (n : ℕ) (s : Share) (f : Found) → IsWhole a → session_of a session ≡ Some live → at ≤ greatest_moment
-    → list_all is_part path ≡ true → value_at a.shares n ≡ Some s → found_in s.tree path ≡ f → first_open a how (Some (n, f)) ≡ None → IsWhole (came_one (opens_at a at session path access mode n f))
-by_found a at session live path access mode how n s (found.Node id) w found early parts there is passed = node_whole a at session live path access mode how n id s w found early there is passed
-by_found a at session live path access mode how n s (found.Missing d) w found early parts there is passed =
-    let f = path_missing a.next_id s.tree path d (w.shares n s there).tree parts is in
-    rw f.last (missing_whole a at session live path access mode n d s w found early there f)
-by_found a at session live path access mode how n s (found.NoParent k) w found early parts there is passed = came_whole a w
+  file_changes : Changes a.next_id (a.next_id + 1) n (with_new a.next_id d f.name) a.shares
+  file_changes = record {
+    no_less = omega arith;
+    goes = λ r e. subst (λ (q : Share). ShareGoes a.next_id (a.next_id + 1) q (with_new a.next_id d f.name q)) (same_Some _ _ (sym there ∙ e)) file_goes;
+  }
 
-by_share : (a : Account) (at session : ℕ) (live : Live) (path : List (List ℕ)) (access : Access) (mode : Mode) (how : How) (name : List ℕ) (o : Option (ℕ × Share)) → IsWhole a → session_of a session ≡ Some live → at ≤ greatest_moment
-    → list_all is_part path ≡ true → share_named a.shares name ≡ o → first_open a how (option_map (λ e. (e.0, found_in e.1.tree path)) o) ≡ None
-    → IsWhole (came_one (opens_in a at session path access mode (option_map (λ e. (e.0, found_in e.1.tree path)) o)))
-by_share a at session live path access mode how name None w found early parts is passed = came_whole a w
-by_share a at session live path access mode how name (Some e) w found early parts is passed =
-    by_found a at session live path access mode how e.0 e.1 (found_in e.1.tree path) w found early parts (found_value (has_name name) a.shares e w.sorted is) refl passed
+  file_there : value_at (change_at n (with_new a.next_id d f.name) a.shares) n ≡ Some (with_new a.next_id d f.name s)
+  file_there =
+      let (y, at, how) = change_there n (with_new a.next_id d f.name) a.shares n s there in
+      at ∙ ap (λ (r : Share). Some r) (⊎_elim (λ (h : (n ≢ n) × (y ≡ s)). absurd (h.0 refl)) (λ (h : (n ≡ n) × (y ≡ with_new a.next_id d f.name s)). h.1) how)
 
-pub opens_whole : (a : Account) (at session : ℕ) (live : Live) (name : List ℕ) (path : List (List ℕ)) (access : Access) (mode : Mode) (how : How) → IsWhole a → session_of a session ≡ Some live → at ≤ greatest_moment
-    → list_all is_part path ≡ true → first_open a how (place_of a name path) ≡ None → IsWhole (came_one (opens_in a at session path access mode (place_of a name path)))
-opens_whole a at session live name path access mode how w found early parts passed =
-    by_share a at session live path access mode how name (share_named a.shares name) w found early parts refl passed
+  file_stands : slot_at (with_new a.next_id d f.name s).tree a.next_id ≡ Some (new_slot f.name (new_file a.next_id d))
+  unfolding with_new
+  file_stands = grown_new a.next_id s.tree d f.name (new_file a.next_id d) tree room
+
+-- ---- an open of a session
+module _ (a : Account) (at session : ℕ) (live : Live) (path : List (List ℕ)) (access : Access) (mode : Mode) (how : How)
+    (w : IsWhole a) (is_live : session_of a session ≡ Some live) (early : at ≤ greatest_moment) (parts : list_all is_part path ≡ true) where
+  -- of a file that is there
+  node_whole : (n id : ℕ) (s : Share) → value_at a.shares n ≡ Some s → found_in s.tree path ≡ found.Node id → first_open a how (Some (n, found.Node id)) ≡ None → IsWhole (came_one (opened a at session n id access mode))
+  node_whole n id s there is passed =
+      let (x, stands) = path_node a.next_id s.tree (w.shares n s there).tree path id is in
+      open_whole a at session a.next_id a.shares n id access mode w (record {
+        live = live;
+        found = is_live;
+        moment = early;
+        least = omega arith;
+        most = omega arith;
+        shares = shares_in a w;
+        stay = shares_same a.shares;
+        value = s;
+        there = there;
+        slot = x;
+        stands = stands;
+        file = file_found a how n id s x there stands passed;
+      })
+
+  -- of a new file
+  missing_whole : (n d : ℕ) (s : Share) → value_at a.shares n ≡ Some s → (f : IsFree s.tree d path) → IsWhole (came_one (opened (with_file a n d f.name) at session n a.next_id access mode))
+  unfolding with_new
+  missing_whole n d s there f =
+      let k = file_changes a w path n d s there f in
+      open_whole a at session (a.next_id + 1) (change_at n (with_new a.next_id d f.name) a.shares) n a.next_id access mode w (record {
+        live = live;
+        found = is_live;
+        moment = early;
+        least = omega arith;
+        most = omega arith;
+        shares = shares_changed a.next_id (a.next_id + 1) a.made n (with_new a.next_id d f.name) a.shares (shares_in a w) k;
+        stay = changed_stay a.next_id (a.next_id + 1) a.made n (with_new a.next_id d f.name) a.shares (shares_in a w) k;
+        value = with_new a.next_id d f.name s;
+        there = file_there a w path n d s there f;
+        slot = new_slot f.name (new_file a.next_id d);
+        stands = file_stands a w path n d s there f;
+        file = refl;
+      })
+
+  by_found : (n : ℕ) (s : Share) (f : Found) → value_at a.shares n ≡ Some s → found_in s.tree path ≡ f → first_open a how (Some (n, f)) ≡ None → IsWhole (came_one (opens_at a at session path access mode n f))
+  by_found n s (found.Node id) there is passed = node_whole n id s there is passed
+  by_found n s (found.Missing d) there is passed = let f = path_missing a.next_id s.tree (w.shares n s there).tree path d parts is in rw f.last (missing_whole n d s there f)
+  by_found n s (found.NoParent k) there is passed = came_whole a w
+
+  by_share : (name : List ℕ) (o : Option (ℕ × Share)) → share_named a.shares name ≡ o → first_open a how (option_map (λ e. (e.0, found_in e.1.tree path)) o) ≡ None
+      → IsWhole (came_one (opens_in a at session path access mode (option_map (λ e. (e.0, found_in e.1.tree path)) o)))
+  by_share name None is passed = came_whole a w
+  by_share name (Some e) is passed = by_found e.0 e.1 (found_in e.1.tree path) (found_value (has_name name) a.shares e w.sorted is) refl passed
+
+  -- an open that no check refuses leaves the account whole
+  pub opens_whole : (name : List ℕ) → first_open a how (place_of a name path) ≡ None → IsWhole (came_one (opens_in a at session path access mode (place_of a name path)))
+  opens_whole name passed = by_share name (share_named a.shares name) refl passed

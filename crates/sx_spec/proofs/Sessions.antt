@@ -22,9 +22,11 @@ pub record SessionsStay (ls ks : List Live) : Type 0 where
 live_later : (s c t d : ℕ) → s ≤ t → c ≤ d → (l : Live) → IsLive s c l → IsLive t d l
 live_later s c t d le me l w = record { first = w.first; started = omega (arith, w.started); granted = omega (arith, w.granted) }
 
+-- greater bounds bound them too
 pub sessions_later : (s c t d : ℕ) (ls : List Live) → s ≤ t → c ≤ d → AreSessions s c ls → AreSessions t d ls
 sessions_later s c t d ls le me w = record { live = all_map (IsLive s c) (IsLive t d) (live_later s c t d le me) ls w.live; different = w.different }
 
+-- they stay where nothing changes
 pub sessions_same : (ls : List Live) → SessionsStay ls ls
 sessions_same ls = record { stays = λ n l e. (l, e, omega arith) }
 
@@ -39,6 +41,7 @@ different_end s c (l ∷ ls) k lt w d =
     let low : l.session ≤ s = w.0.started in
     (all_end (λ q. l.session < q.session) ls k d.0 (omega (arith, low)), different_end s c ls k lt w.1 d.1)
 
+-- with one more, of the next number, they keep their facts
 pub sessions_started : (s c : ℕ) (ls : List Live) (k : Live) → AreSessions s c ls → k.session ≡ s + 1 → k.granted ≡ 0 → AreSessions (s + 1) (c + 1) (ls ++ k ∷ [])
 sessions_started s c ls k w at none = record {
   live = all_end (IsLive (s + 1) (c + 1)) ls k (all_map (IsLive s c) (IsLive (s + 1) (c + 1)) (live_later s c (s + 1) (c + 1) (omega arith) (omega arith)) ls w.live)
@@ -46,6 +49,7 @@ sessions_started s c ls k w at none = record {
   different = different_end s c ls k (omega arith) w.live w.different;
 }
 
+-- and those before stay
 pub started_stay : (ls : List Live) (k : Live) → SessionsStay ls (ls ++ k ∷ [])
 started_stay ls k = record { stays = λ n l e. (l, (rw (find-append (is_session n) ls (k ∷ [])) (rw e refl)), omega arith) }
 
@@ -58,6 +62,7 @@ different_filter p (l ∷ ls) d =
       | false ↦ different_filter p ls d.1
     ]
 
+-- those that a filter keeps keep their facts
 pub sessions_ended : (s c : ℕ) (p : Live → Bool) (ls : List Live) → AreSessions s c ls → AreSessions s c (filter p ls)
 sessions_ended s c p ls w = record { live = all_filter (IsLive s c) p ls w.live; different = different_filter p ls w.different }
 
@@ -96,6 +101,7 @@ different_granted p (l ∷ ls) d =
       | false ↦ (all_change (λ q. l.session < q.session) p grant ls (λ q h. h) d.0, different_granted p ls d.1)
     ]
 
+-- with one more open granted they keep their facts
 pub sessions_granted : (s c : ℕ) (p : Live → Bool) (ls : List Live) → AreSessions s c ls → AreSessions s (c + 1) (change p grant ls)
 sessions_granted s c p ls w = record { live = all_granted s c p ls w.live; different = different_granted p ls w.different }
 
@@ -106,6 +112,7 @@ granted_finds n ls l e = find_change (is_session n) grant (λ _. refl) ls ∙ ap
 another : (n m : ℕ) (l : Live) → n ≢ m → is_session m l ≡ true → is_session n l ≡ false
 another n m l ne e = search rules
 
+-- and stay
 pub granted_stay : (m : ℕ) (ls : List Live) → SessionsStay ls (change (is_session m) grant ls)
 granted_stay m ls = record {
   stays = λ n l e. ⊎_elim

@@ -44,16 +44,8 @@ child_by false l r e = absurd (none_some r e)
 step_in : (t : Nodes) (q : ℕ) (x : Slot) (name : List ℕ) (r : Option ℕ) → slot_at t q ≡ Some x → child_of (slot_at t q) name ≡ Some r → (is_directory x.node.kind ≡ true) × (lookup (by_name name) x.below ≡ r)
 step_in t q x name r at e = child_by (is_directory x.node.kind) (lookup (by_name name) x.below) r (sym (ap (λ (s : Option Slot). child_of s name) at) ∙ e)
 
--- ---- a walk that ends at a node
-pub walk_node : (next : ℕ) (t : Nodes) → IsTree next t → (q parts : ℕ) (x : Slot) (ps : List (List ℕ)) (id : ℕ) → slot_at t q ≡ Some x → walk t q parts ps ≡ found.Node id → (y : Slot) × (slot_at t id ≡ Some y)
-walk_node next t w q parts x [] id at e = let h : found.Node q ≡ found.Node id = e in let same : q ≡ id = cc in (x, subst (λ (j : ℕ). slot_at t j ≡ Some x) same at)
-walk_node next t w q parts x (p ∷ ps) id at e =
-    let (child, is, on) = node_step q parts (length ps == 0) (child_of (slot_at t q) (fold p)) (λ child. walk t child (parts + 1) ps) id e in
-    let l = w.below q x (fold p) child at (step_in t q x (fold p) (Some child) at is).1 in
-    walk_node next t w child (parts + 1) l.slot ps id l.there on
-
 -- ---- a walk that ends where the last name is missing
--- a directory in which a name is free
+-- a directory in which the last name of a path is free
 pub record IsFree (t : Nodes) (d : ℕ) (path : List (List ℕ)) : Type 0 where
   pub name : List ℕ
   pub last : last_part path ≡ Some name
@@ -80,26 +72,38 @@ and_right false c e = absurd (true_false (sym e))
 not_last : {X : Type 0} (r : X) (rs : List X) → (length (r ∷ rs) == 0) ≡ true → ⊥
 not_last r rs e = search rules
 
-pub walk_missing : (next : ℕ) (t : Nodes) → IsTree next t → (q parts : ℕ) (x : Slot) (ps : List (List ℕ)) (d : ℕ) → list_all is_part ps ≡ true → slot_at t q ≡ Some x → walk t q parts ps ≡ found.Missing d → IsFree t d ps
-walk_missing next t w q parts x [] d parts_are at e = absurd (no_node d q (sym e))
-walk_missing next t w q parts x (p ∷ []) d are at e =
-    ⊎_elim
-    (λ (h : (child_of (slot_at t q) (fold p) ≡ Some None) × (true ≡ true) × (q ≡ d)).
-    let (directory, free) = step_in t q x (fold p) None at h.0 in
-    record { name = p; last = refl; part = and_left (is_part p) _ are; slot = x; there = subst (λ (j : ℕ). slot_at t j ≡ Some x) h.2 at; directory = directory; free = free })
-    (λ (h : (child : ℕ) × (child_of (slot_at t q) (fold p) ≡ Some (Some child)) × (found.Node child ≡ found.Missing d)). absurd (no_node d h.0 (sym h.2)))
-    (missing_step q parts true (child_of (slot_at t q) (fold p)) (λ child. found.Node child) d e)
-walk_missing next t w q parts x (p ∷ r ∷ rs) d are at e =
-    ⊎_elim
-    (λ (h : (child_of (slot_at t q) (fold p) ≡ Some None) × ((length (r ∷ rs) == 0) ≡ true) × (q ≡ d)). absurd (not_last r rs h.1))
-    (λ (h : (child : ℕ) × (child_of (slot_at t q) (fold p) ≡ Some (Some child)) × (walk t child (parts + 1) (r ∷ rs) ≡ found.Missing d)).
-    let l = w.below q x (fold p) h.0 at (step_in t q x (fold p) (Some h.0) at h.1).1 in
-    free_more t d p r rs (walk_missing next t w h.0 (parts + 1) l.slot (r ∷ rs) d (and_right (is_part p) _ are) l.there h.2))
-    (missing_step q parts (length (r ∷ rs) == 0) (child_of (slot_at t q) (fold p)) (λ child. walk t child (parts + 1) (r ∷ rs)) d e)
+-- ---- walks in a tree
+module _ (next : ℕ) (t : Nodes) (w : IsTree next t) where
+  -- from a slot to a node that stands
+  walk_node : (q parts : ℕ) (x : Slot) (ps : List (List ℕ)) (id : ℕ) → slot_at t q ≡ Some x → walk t q parts ps ≡ found.Node id → (y : Slot) × (slot_at t id ≡ Some y)
+  walk_node q parts x [] id at e = let h : found.Node q ≡ found.Node id = e in let same : q ≡ id = cc in (x, subst (λ (j : ℕ). slot_at t j ≡ Some x) same at)
+  walk_node q parts x (p ∷ ps) id at e =
+      let (child, is, on) = node_step q parts (length ps == 0) (child_of (slot_at t q) (fold p)) (λ child. walk t child (parts + 1) ps) id e in
+      let l = w.below q x (fold p) child at (step_in t q x (fold p) (Some child) at is).1 in
+      walk_node child (parts + 1) l.slot ps id l.there on
 
--- ---- from the root
-pub path_node : (next : ℕ) (t : Nodes) (path : List (List ℕ)) (id : ℕ) → IsTree next t → found_in t path ≡ found.Node id → (y : Slot) × (slot_at t id ≡ Some y)
-path_node next t path id w e = let (x, there, directory, none) = w.root in walk_node next t w t.root 0 x path id there e
+  -- from a slot to a directory in which the last name is free
+  walk_missing : (q parts : ℕ) (x : Slot) (ps : List (List ℕ)) (d : ℕ) → list_all is_part ps ≡ true → slot_at t q ≡ Some x → walk t q parts ps ≡ found.Missing d → IsFree t d ps
+  walk_missing q parts x [] d are at e = absurd (no_node d q (sym e))
+  walk_missing q parts x (p ∷ []) d are at e =
+      ⊎_elim
+      (λ (h : (child_of (slot_at t q) (fold p) ≡ Some None) × (true ≡ true) × (q ≡ d)).
+      let (directory, free) = step_in t q x (fold p) None at h.0 in
+      record { name = p; last = refl; part = and_left (is_part p) _ are; slot = x; there = subst (λ (j : ℕ). slot_at t j ≡ Some x) h.2 at; directory = directory; free = free })
+      (λ (h : (child : ℕ) × (child_of (slot_at t q) (fold p) ≡ Some (Some child)) × (found.Node child ≡ found.Missing d)). absurd (no_node d h.0 (sym h.2)))
+      (missing_step q parts true (child_of (slot_at t q) (fold p)) (λ child. found.Node child) d e)
+  walk_missing q parts x (p ∷ r ∷ rs) d are at e =
+      ⊎_elim
+      (λ (h : (child_of (slot_at t q) (fold p) ≡ Some None) × ((length (r ∷ rs) == 0) ≡ true) × (q ≡ d)). absurd (not_last r rs h.1))
+      (λ (h : (child : ℕ) × (child_of (slot_at t q) (fold p) ≡ Some (Some child)) × (walk t child (parts + 1) (r ∷ rs) ≡ found.Missing d)).
+      let l = w.below q x (fold p) h.0 at (step_in t q x (fold p) (Some h.0) at h.1).1 in
+      free_more t d p r rs (walk_missing h.0 (parts + 1) l.slot (r ∷ rs) d (and_right (is_part p) _ are) l.there h.2))
+      (missing_step q parts (length (r ∷ rs) == 0) (child_of (slot_at t q) (fold p)) (λ child. walk t child (parts + 1) (r ∷ rs)) d e)
 
-pub path_missing : (next : ℕ) (t : Nodes) (path : List (List ℕ)) (d : ℕ) → IsTree next t → list_all is_part path ≡ true → found_in t path ≡ found.Missing d → IsFree t d path
-path_missing next t path d w are e = let (x, there, directory, none) = w.root in walk_missing next t w t.root 0 x path d are there e
+  -- the node that a path leads to stands
+  pub path_node : (path : List (List ℕ)) (id : ℕ) → found_in t path ≡ found.Node id → (y : Slot) × (slot_at t id ≡ Some y)
+  path_node path id e = let (x, there, directory, none) = w.root in walk_node t.root 0 x path id there e
+
+  -- where a path leads to nothing, but its parent to a directory, its last name is free there
+  pub path_missing : (path : List (List ℕ)) (d : ℕ) → list_all is_part path ≡ true → found_in t path ≡ found.Missing d → IsFree t d path
+  path_missing path d are e = let (x, there, directory, none) = w.root in walk_missing t.root 0 x path d are there e

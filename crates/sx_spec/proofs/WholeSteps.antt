@@ -34,6 +34,7 @@ whole_empty = record {
   made = omega arith;
   live = tt;
   different = tt;
+  count = omega arith;
   order = tt;
   opens = tt;
   sorted = tt;
@@ -72,7 +73,7 @@ call_whole a who session at (Start peer) w passed live early within = session_wh
 call_whole a who session at End w passed live early within = end_whole a session w
 call_whole a who session at (SmbOpen share path access mode how) w passed live early within =
     let (l, found) = live_by who (session_of a session) live in
-    opens_whole a at session l share path access mode how w found early (parts_by (list_all is_part path) _ _ within.1) passed
+    opens_whole a at session l path access mode how w found early (parts_by (list_all is_part path) _ _ within.1) share passed
 call_whole a who session at (SmbClose index) w passed live early within = close_whole a (λ o. not (has_handle session index o)) w
 call_whole a who session at (SmbRead index from count) w passed live early within = came_whole a w
 call_whole a who session at (SmbWrite index update) w passed live early within = write_whole a update (open_of a session index) w

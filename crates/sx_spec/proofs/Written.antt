@@ -28,42 +28,45 @@ pub record IsLikeTree (t u : Nodes) : Type 0 where
   pub there : (q : ℕ) (x : Slot) → slot_at t q ≡ Some x → (y : Slot) × (slot_at u q ≡ Some y) × IsLike x y
   pub back : (q : ℕ) (y : Slot) → slot_at u q ≡ Some y → (x : Slot) × (slot_at t q ≡ Some x) × IsLike x y
 
-like_child : (t u : Nodes) (q : ℕ) (x y : Slot) → IsLikeTree t u → IsLike x y → IsChild t q x → IsChild u q y
-like_child t u q x y l k c =
-    let (p, at, like) = l.there x.node.parent c.parent c.there in
-    record {
-      name = c.name;
-      named = k.name ∙ c.named;
-      part = c.part;
-      parent = p;
-      there = ap (λ (j : ℕ). slot_at u j) k.parent ∙ at;
-      directory = like.directory ∙ c.directory;
-      listed = ap (λ (es : List (List ℕ × ℕ)). lookup (by_name (fold c.name)) es) like.below ∙ c.listed;
-      earlier = omega (arith, c.earlier, k.parent);
-    }
+module _ (t u : Nodes) (l : IsLikeTree t u) where
+  like_child : (q : ℕ) (x y : Slot) → IsLike x y → IsChild t q x → IsChild u q y
+  like_child q x y k c =
+      let (p, at, like) = l.there x.node.parent c.parent c.there in
+      record {
+        name = c.name;
+        named = k.name ∙ c.named;
+        part = c.part;
+        parent = p;
+        there = ap (λ (j : ℕ). slot_at u j) k.parent ∙ at;
+        directory = like.directory ∙ c.directory;
+        listed = ap (λ (es : List (List ℕ × ℕ)). lookup (by_name (fold c.name)) es) like.below ∙ c.listed;
+        earlier = omega (arith, c.earlier, k.parent);
+      }
 
-like_listed : (t u : Nodes) (q : ℕ) (name : List ℕ) (child : ℕ) → IsLikeTree t u → IsListed t q name child → IsListed u q name child
-like_listed t u q name child l c =
-    let (y, at, like) = l.there child c.slot c.there in
-    record { slot = y; there = at; parent = like.parent ∙ c.parent; kept = c.kept; named = like.name ∙ c.named; folded = c.folded }
+  like_listed : (q : ℕ) (name : List ℕ) (child : ℕ) → IsListed t q name child → IsListed u q name child
+  like_listed q name child c =
+      let (y, at, like) = l.there child c.slot c.there in
+      record { slot = y; there = at; parent = like.parent ∙ c.parent; kept = c.kept; named = like.name ∙ c.named; folded = c.folded }
 
-like_root : (next : ℕ) (t u : Nodes) → IsTree next t → IsLikeTree t u → (x : Slot) × (slot_at u u.root ≡ Some x) × (is_directory x.node.kind ≡ true) × (x.name ≡ None)
-like_root next t u w l =
-    let (x, there, directory, none) = w.root in
-    let (y, at, like) = l.there t.root x there in
-    (y, ap (λ (j : ℕ). slot_at u j) l.root ∙ at, like.directory ∙ directory, like.name ∙ none)
+  like_root : (next : ℕ) → IsTree next t → (x : Slot) × (slot_at u u.root ≡ Some x) × (is_directory x.node.kind ≡ true) × (x.name ≡ None)
+  like_root next w =
+      let (x, there, directory, none) = w.root in
+      let (y, at, like) = l.there t.root x there in
+      (y, ap (λ (j : ℕ). slot_at u j) l.root ∙ at, like.directory ∙ directory, like.name ∙ none)
 
-pub like_tree : (next : ℕ) (t u : Nodes) → IsTree next t → IsLikeTree t u → IsTree next u
-like_tree next t u w l = record {
-  sorted = subst (IsStrictlySortedBy nat_cmp) (sym l.keys) w.sorted;
-  root = like_root next t u w l;
-  ids = λ q y e. let (x, at, like) = l.back q y e in let h = w.ids q x at in (like.id ∙ h.0, h.1);
-  children = λ q y e ne. let (x, at, like) = l.back q y e in like_child t u q x y l like (w.children q x at (λ h. ne (h ∙ sym l.root)));
-  files = λ q y e file. let (x, at, like) = l.back q y e in like.below ∙ w.files q x at (sym like.directory ∙ file);
-  names = λ q y e. let (x, at, like) = l.back q y e in subst (λ (es : List (List ℕ × ℕ)). IsStrictlySortedBy (slice_cmp nat_cmp) (keys_of es)) (sym like.below) (w.names q x at);
-  below = λ q y name child e at'. let (x, at, like) = l.back q y e in
-      like_listed t u q name child l (w.below q x name child at (ap (λ (es : List (List ℕ × ℕ)). lookup (by_name name) es) (sym like.below) ∙ at'));
-}
+  -- it is a tree, too
+  pub like_tree : (next : ℕ) → IsTree next t → IsTree next u
+  like_tree next w = record {
+    sorted = subst (IsStrictlySortedBy nat_cmp) (sym l.keys) w.sorted;
+    root = like_root next w;
+    ids = λ q y e. let (x, at, like) = l.back q y e in let h = w.ids q x at in (like.id ∙ h.0, h.1);
+    children = λ q y e ne. let (x, at, like) = l.back q y e in like_child q x y like (w.children q x at (λ h. ne (h ∙ sym l.root)));
+    files = λ q y e file. let (x, at, like) = l.back q y e in like.below ∙ w.files q x at (sym like.directory ∙ file);
+    names = λ q y e. let (x, at, like) = l.back q y e in subst (λ (es : List (List ℕ × ℕ)). IsStrictlySortedBy (slice_cmp nat_cmp) (keys_of es)) (sym like.below) (w.names q x at);
+    below = λ q y name child e there.
+        let (x, at, like) = l.back q y e in
+        like_listed q name child (w.below q x name child at (ap (λ (es : List (List ℕ × ℕ)). lookup (by_name name) es) (sym like.below) ∙ there));
+  }
 
 -- ---- bytes are written
 same_kind : (at : ℕ) (piece : List ℕ) (k : Kind) → is_directory (written_kind at piece k) ≡ is_directory k
@@ -93,7 +96,7 @@ pub written_goes : (next id at : ℕ) (piece : List ℕ) (t : Nodes) → IsTree 
 written_goes next id at piece t w =
     let l = written_like id at piece t in
     record {
-      tree = like_tree next t (written_nodes id at piece t) w l;
+      tree = like_tree t (written_nodes id at piece t) l next w;
       old = λ q y e. let (x, f, like) = l.back q y e in inr (x, f);
       stay = record { stays = λ q x e. let (y, f, like) = l.there q x e in (y, f, like.directory) };
     }

@@ -1,5 +1,5 @@
 -- What holds of every account that a history leaves.
-use Rattle.std.specs.Prelude.{◌≡◌, ◌≢◌, ℕ, ◌+◌, ◌<◌, ◌≤◌, true, false, List, [], ◌∷◌, Option, Some, None}
+use Rattle.std.specs.Prelude.{◌≡◌, ◌≢◌, ℕ, ◌+◌, ◌<◌, ◌≤◌, true, false, List, [], ◌∷◌, length, Option, Some, None}
 use Rattle.std.specs.List.{find, AllByRecursion}
 use Rattle.std.specs.List.Sorted.{IsStrictlySortedBy}
 use Rattle.std.specs.Ordering.{nat_cmp}
@@ -88,6 +88,7 @@ pub record IsWhole (a : Account) : Type 0 where
   pub made : a.made ≤ a.came
   pub live : AllByRecursion (IsLive a.started a.came) a.sessions
   pub different : AreDifferent a.sessions
+  pub count : length a.opens ≤ a.came
   pub order : AreInOrder a.opens
   pub opens : AllByRecursion (IsOpen a.sessions a.shares) a.opens
   pub sorted : IsStrictlySortedBy nat_cmp (keys_of a.shares)
