@@ -6,6 +6,7 @@ use Rattle.sx_spec.specs.History.{History, MayCome, wants, is_refused, last_mome
 use Rattle.sx_spec.specs.Step.{replay, step}
 use Rattle.sx_spec.specs.Whole.{IsWhole}
 use Rattle.sx_spec.proofs.Histories.{kept_more, step_room}
+use Rattle.sx_spec.proofs.WholeSteps.{whole_step}
 use Rattle.sx_book.proofs.book.Book.step.Goals as goal
 
 pub invariant_of-self-2 : goal.invariant_of-self-2
@@ -16,7 +17,7 @@ invariant_of-self-2 c =
     let M : History → Type 0 = λ h. MayCome (replay h.entries) (last_moment h.entries) c.args.entry in
     let N : Account → Type 0 = λ a. MayCome a (last_moment b.entries.items) c.args.entry in
     let may : MayCome b.state (last_moment b.entries.items) n.entry = subst N (sym c.self.invariant.state) (subst M (sym c.self.view_is) c.requires) in
-    let done : (c.serve.new.state, c.in-Ok.reply) ≡ step b.state n.entry = c.in-Ok.ensures.done in
+    let done : (c.serve.new.state, c.in-Ok-serve.reply) ≡ step b.state n.entry = c.in-Ok-serve.ensures.done in
     let new : c.serve.new.state ≡ (step b.state n.entry).0 = ap (λ (p : Account × Reply). p.0) done in
     let marked : n.refused ≡ is_refused (step b.state n.entry).1 = c.is_refusal-refused.ensures ∙ ap (λ (p : Account × Reply). is_refused p.1) done in
     let wanted : c.wanted-wanted.result ≡ wants b.state n.entry.call = c.wanted-wanted.ensures.wants b.state (sym c.live-sessions.ensures) in
@@ -27,7 +28,7 @@ invariant_of-self-2 c =
       state = rw items kept.state;
       came = rw items kept.came;
       room = rw items kept.room;
-      kept = ?;
+      kept = omega (arith, rw c.unwrap.ensures at c.push.ensures.len, c.push.ensures.capacity, c.in-Ok.ensures.ok, c.reserve.ensures.len, left, wanted, ap (λ (a : Account). length a.sessions) new);
       legal = rw items kept.legal;
-      whole = ?;
+      whole = subst IsWhole (sym new) (whole_step b.state (last_moment b.entries.items) n.entry c.self.invariant.whole may c.keeps_limits.ensures);
     }
