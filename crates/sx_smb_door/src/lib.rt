@@ -1,0 +1,8 @@
+//! A session's lines: reading them, the calls that they spell, and the printed answers.
+#![tactic(auto)]
+
+mod answer;
+mod lines;
+
+pub use answer::{LineAnswer, print_line};
+pub use lines::LINE_LIMIT;
