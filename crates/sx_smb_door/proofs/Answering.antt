@@ -1,9 +1,9 @@
 -- What a reader's answer says of its stream.
-use Rattle.std.proofs.Common.{ℕ, ◌+◌, ◌-◌, ◌^◌, ◌<◌, ◌≤◌, ◌≡◌, List, [], ◌∷◌, ◌++◌, length, take, drop, refl, sym, ap, ◌∙◌, subst, position, arith, min, length-append, IfSome}
+use Rattle.std.proofs.Common.{ℕ, ◌+◌, ◌-◌, ◌^◌, ◌<◌, ◌≤◌, ◌≡◌, List, [], ◌∷◌, ◌++◌, length, take, drop, refl, sym, ap, ◌∙◌, subst, position, arith, min, length-append, length-take, IfSome}
 use Rattle.std.specs.declared.option.Option.{Option}
 use Rattle.std.specs.declared.option.Option.TheVariants.{None, Some}
 use Rattle.std.specs.Io.KnownBytes.{Keeps, Consumes, IsAtEnd, prepend_known}
-use Rattle.std.proofs.Math.Seq.{take-append-le}
+use Rattle.std.proofs.Math.Seq.{take-append-le, take-add}
 use Rattle.std.proofs.lemmas.List.{append-nil}
 use Rattle.std.proofs.lemmas.List.Quantifiers.{position-Some}
 use Rattle.sx_base.specs.Causes.{Rose}
@@ -51,11 +51,11 @@ told_front (Some xs) (Some ys) held n h k =
 
 -- that a line is over its limit
 pub long_answered : (reader : Lines) (left : Option (List ℕ)) (n : ℕ) → BeginsOpen (line_limit + 1) reader.held → Answered (Long reader.taken) reader reader left left n n
-long_answered reader left n h = (stays_same reader left, told_front (stream reader left) left reader.held (line_limit + 1) (keeps_same (stream reader left)) h, h, refl)
+long_answered reader left n h = (stays_same reader left, (told_front (stream reader left) left reader.held (line_limit + 1) (keeps_same (stream reader left)) h, h, refl))
 
 -- that a line is given
 pub line_given : (old new : Lines) (line : List ℕ) (i : ℕ) (left : Option (List ℕ)) → position is_line_end old.held ≡ Some i → i ≤ line_limit → line ≡ take i old.held
-    → new ≡ record { held = drop (i + 1) old.held; taken = old.taken + i + 1; budget = old.budget } → new.taken ≤ new.budget → Gives line old new left left
+    → new ≡ record { held = drop (i + 1) old.held; taken = old.taken + i + 1; budget = old.budget } → new.taken + length new.held ≤ new.budget → Gives line old new left left
 line_given old new line i left e short is now within =
     let at = position-Some is_line_end old.held i 0 e in
     let front = one_front old.held i i e (omega arith) in
@@ -68,7 +68,7 @@ line_given old new line i left e short is now within =
       one = subst P (sym is) front.1;
       short = omega (arith, count, short);
       taken = ap (λ (r : Lines). r.taken) now ∙ omega (arith, count);
-      within = within;
+      within = omega (arith, within);
       budget = ap (λ (r : Lines). r.budget) now;
     }
 
@@ -108,3 +108,7 @@ answered_more (Long at) a b c l m n before mid now h le k = (stays_more a b c l 
 answered_more Spent a b c l m n before mid now h le k = (stays_more a b c l m n h k.0, reason_kept Spent c (stream a l) (stream b m) before mid now h.bytes le k.1)
 answered_more ReadFault a b c l m n before mid now h le k = (stays_more a b c l m n h k.0, reason_kept ReadFault c (stream a l) (stream b m) before mid now h.bytes le k.1)
 answered_more NoMemory a b c l m n before mid now h le k = (stays_more a b c l m n h k.0, k.1)
+
+-- bytes that were read behind those that stood there
+pub read_grew : (old sized now : List ℕ) (held count : ℕ) → take held now ≡ take held sized → take held sized ≡ old → take (held + count) now ≡ old ++ take count (drop held now)
+read_grew old sized now held count h k = take-add held count now ∙ ap (λ (front : List ℕ). front ++ take count (drop held now)) (h ∙ k)

@@ -1,2 +1,4 @@
-pub mod Splits
 pub mod Answering
+pub mod Numbers
+pub mod SessionCalls
+pub mod Splits

@@ -1,8 +1,8 @@
 -- The first line of the bytes.
-use Rattle.std.proofs.Common.{ℕ, suc, ◌+◌, ◌-◌, ◌<◌, ◌≤◌, ◌≡◌, ◌==◌, Bool, true, false, cond, List, [], ◌∷◌, ◌++◌, length, get_or, take, drop, refl, sym, ap, ◌∙◌, subst, Option, Some, None, position, arith, nat_lt, append_assoc, add-one, length-take, ◌⊎◌, inl, inr}
+use Rattle.std.proofs.Common.{ℕ, suc, ◌+◌, ◌-◌, ◌<◌, ◌≤◌, ◌≡◌, ◌==◌, Bool, true, false, cond, List, [], ◌∷◌, ◌++◌, length, get_or, take, drop, refl, sym, ap, ◌∙◌, subst, Option, Some, None, position, arith, nat_lt, append_assoc, add-one, length-take, inl, inr}
 use Rattle.std.specs.List.{All, position_or_len}
 use Rattle.std.proofs.Math.Seq.{drop-cons}
-use Rattle.std.proofs.lemmas.Bool.{ltb-false, eqb-true, lt-ltb}
+use Rattle.std.proofs.lemmas.Bool.{ltb-false, eqb-true, lt-ltb, cases_lt}
 use Rattle.std.proofs.lemmas.List.{take-append-drop, get_or-take, get_or-drop, length-drop}
 use Rattle.std.proofs.lemmas.List.Quantifiers.{position-Some}
 use Rattle.std.proofs.lemmas.List.Sums.{fails_before_first, position_or_len_is}
@@ -64,16 +64,13 @@ behind bytes n k le =
     let sum : n + (k - n) ≡ k = omega (arith, le) in
     sym (get_or-drop n bytes (k - n) 0 ∙ ap (λ (i : ℕ). get_or bytes i 0) sum)
 
-either : (k n : ℕ) → (k < n) ⊎ (n ≤ k)
-either k n = omega arith
-
 -- searching behind a front that holds no line's end
 pub searched_some : (bytes : List ℕ) (n i : ℕ) → BeginsOpen n bytes → position is_line_end (drop n bytes) ≡ Some i → position is_line_end bytes ≡ Some (n + i)
 searched_some bytes n i h e =
     let at = position-Some is_line_end (drop n bytes) i 0 e in
     let here : is_line_end (get_or bytes (n + i) 0) ≡ true = rw (sym (get_or-drop n bytes i 0)) at.1 in
     position_is bytes (n + i) (omega (arith, at.0, length-drop n bytes, h.0))
-    (λ k lt. elim (either k n) [
+    (λ k lt. elim (cases_lt k n) [
       inl low ↦ front_fails bytes n k h low
       | inr high ↦ rw (behind bytes n k high) (at.2 (k - n) (omega (arith, lt, high)))
     ])
@@ -83,7 +80,7 @@ pub searched_none : (bytes : List ℕ) (n : ℕ) → BeginsOpen n bytes → posi
 searched_none bytes n h e =
     let one = one_line (drop n bytes) e in
     position_none bytes
-    (λ k lt. elim (either k n) [
+    (λ k lt. elim (cases_lt k n) [
       inl low ↦ front_fails bytes n k h low
       | inr high ↦ rw (behind bytes n k high) (one (k - n) 0 (omega (arith, lt, high, length-drop n bytes)))
     ])

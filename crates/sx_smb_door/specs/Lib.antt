@@ -2,3 +2,4 @@ pub mod Limits
 pub mod Lines
 pub mod Readers
 pub mod SessionLines
+pub mod Spelling

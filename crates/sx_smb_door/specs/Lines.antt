@@ -6,7 +6,7 @@ use Rattle.sx_base.specs.Causes.{Rose}
 use Rattle.sx_smb_door.specs.Limits.{line_limit}
 use Rattle.sx_smb_door.specs.Readers.{Lines}
 use Rattle.sx_smb_door.specs.declared.lines.Filled.{Filled}
-use Rattle.sx_smb_door.specs.declared.lines.Filled.TheVariants.{Some as FSome, End as FEnd, ReadFault as FReadFault, NoMemory as FNoMemory}
+use Rattle.sx_smb_door.specs.declared.lines.Filled.TheVariants.{More, End as Ended, ReadFault as Failed, NoMemory as Starved}
 use Rattle.sx_smb_door.specs.declared.lines.NextLine.{NextLine}
 use Rattle.sx_smb_door.specs.declared.lines.NextLine.TheVariants.{Line, End, Cut, Long, Spent, ReadFault, NoMemory}
 
@@ -75,14 +75,14 @@ pub record WantsMore (reader : Lines) : Type 0 where
 
 -- what one read did
 abbrev pub Filling : Filled → Lines → Lines → Option (List ℕ) → Option (List ℕ) → ℕ → ℕ → Type 0
-Filling FSome old new left left' before now = Stays old new left left' × (take (length old.held) new.held ≡ old.held) × (length old.held < length new.held)
-Filling FEnd old new left left' before now = Stays old new left left' × IsAtEnd left' × (new ≡ old)
-Filling FReadFault old new left left' before now = Stays old new left left' × Rose before now
-Filling FNoMemory old new left left' before now = Stays old new left left'
+Filling More old new left left' before now = Stays old new left left' × (take (length old.held) new.held ≡ old.held) × (length old.held < length new.held)
+Filling Ended old new left left' before now = Stays old new left left' × IsAtEnd left' × (new ≡ old)
+Filling Failed old new left left' before now = Stays old new left left' × Rose before now
+Filling Starved old new left left' before now = Stays old new left left'
 
 -- the same, by the bytes that are kept for the reader
 abbrev pub Reading : Filled → List ℕ → List ℕ → ℕ → Option (List ℕ) → Option (List ℕ) → ℕ → ℕ → Type 0
-Reading FSome old new most left left' before now = (bytes : List ℕ) × (new ≡ old ++ bytes) × (0 < length bytes) × (length bytes ≤ most) × Consumes left left' bytes
-Reading FEnd old new most left left' before now = (new ≡ old) × Keeps left left' × IsAtEnd left'
-Reading FReadFault old new most left left' before now = (new ≡ old) × Keeps left left' × Rose before now
-Reading FNoMemory old new most left left' before now = (new ≡ old) × Keeps left left'
+Reading More old new most left left' before now = (bytes : List ℕ) × (new ≡ old ++ bytes) × (0 < length bytes) × (length bytes ≤ most) × Consumes left left' bytes
+Reading Ended old new most left left' before now = (new ≡ old) × Keeps left left' × IsAtEnd left'
+Reading Failed old new most left left' before now = (new ≡ old) × Keeps left left' × Rose before now
+Reading Starved old new most left left' before now = (new ≡ old) × Keeps left left'

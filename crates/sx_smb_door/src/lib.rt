@@ -3,6 +3,8 @@
 
 mod answer;
 mod lines;
+mod parse;
 
 pub use answer::{LineAnswer, print_line};
-pub use lines::LINE_LIMIT;
+pub use lines::{LINE_LIMIT, LineReader, NextLine};
+pub use parse::call_of_line;

@@ -1,10 +1,13 @@
 ghost use Rattle.std.specs.Prelude.{◌≡◌, ◌≤◌, ◌<◌, ◌+◌, ◌++◌, ◌∷◌, [], ℕ, List, Some, IfOk, OnErr, OnOk, MatchOption, length, position, take, drop};
 ghost use Rattle.std.specs.declared.option.Option.{Option};
+ghost use Rattle.std.specs.Io.{ReadsAtMost};
+ghost use Rattle.std.specs.Io.KnownBytes.{ReadConsumes};
+ghost use Rattle.sx_base.specs.Causes.{HasCause};
 ghost use Rattle.sx_smb_door.specs.Lines.{is_line_end, IsOneLine, BeginsOpen, WantsMore, Answered, AtEnd, Filling, Reading};
 
 use std::alloc::Global;
 use std::marker::Model;
-use sx_base::{Items, NoMemory, Source};
+use sx_base::{Failed, Items, NoMemory, Source};
 
 /// The most bytes of a line, its line feed not counted (this profile's rule).
 pub const LINE_LIMIT: u64 = 2_097_408;
@@ -93,7 +96,7 @@ impl LineReader {
             }
             searched = self.held().len();
             match self.fill(source) {
-                Filled::Some => {}
+                Filled::More => {}
                 Filled::End => return self.at_end(),
                 Filled::ReadFault => return NextLine::ReadFault,
                 Filled::NoMemory => return NextLine::NoMemory,
@@ -112,23 +115,25 @@ impl LineReader {
     /// The answer that needs no read, if there is one. The first `searched` bytes are known to hold no line feed.
     fn ready(&mut self, searched: usize) -> Option<NextLine>
         requires { BeginsOpen searched self.old.held }
-        ensures { MatchOption result ((self.new ≡ self.old) × WantsMore self.new) (λ next. (left : Option (List ℕ)) → (count : ℕ) → Answered next self.old self.new left left count count) }
+        ensures within { self.new.taken + length self.new.held ≤ self.new.budget }
+        ensures answered { MatchOption result ((self.new ≡ self.old) × WantsMore self.new) (λ next. (left : Option (List ℕ)) → (count : ℕ) → Answered next self.old self.new left left count count) }
     {
         match line_end(self.held(), searched) {
-            Some(length) => Some(self.give(length)),
+            Some(place) => Some(self.give(place)),
             None => self.refused(),
         }
     }
 
-    /// Gives the line before the first line feed, which stands behind `length` bytes.
-    fn give(&mut self, length: usize) -> NextLine
-        requires { position is_line_end self.old.held ≡ Some length }
-        ensures { (left : Option (List ℕ)) → (count : ℕ) → Answered result self.old self.new left left count count }
+    /// Gives the line before the first line feed, which stands at a place.
+    fn give(&mut self, place: usize) -> NextLine
+        requires { position is_line_end self.old.held ≡ Some place }
+        ensures within { self.new.taken + length self.new.held ≤ self.new.budget }
+        ensures answered { (left : Option (List ℕ)) → (count : ℕ) → Answered result self.old self.new left left count count }
     {
-        if LINE_LIMIT < length as u64 {
+        if LINE_LIMIT < place as u64 {
             return NextLine::Long { at: self.taken() };
         }
-        match self.cut_off(length) {
+        match self.cut_off(place) {
             Ok(line) => NextLine::Line(line),
             Err(_) => NextLine::NoMemory,
         }
@@ -137,7 +142,7 @@ impl LineReader {
     /// Takes a line of this length, and the byte behind it, off what is held.
     fn cut_off(&mut self, count: usize) -> Result<Items<u8>, NoMemory>
         requires { count < length self.old.held }
-        ensures within { self.new.taken ≤ self.new.budget }
+        ensures within { self.new.taken + length self.new.held ≤ self.new.budget }
         ensures ok { IfOk result (λ line. (line ≡ take count self.old.held) × (self.new ≡ record { held = drop (count + 1) self.old.held; taken = self.old.taken + count + 1; budget = self.old.budget })) }
         ensures err { OnErr result (self.new ≡ self.old) }
     {
@@ -166,6 +171,7 @@ impl LineReader {
     /// Reads once, at most what the budget leaves.
     fn fill<S: Source>(&mut self, source: &mut S) -> Filled
         requires { self.old.taken + length self.old.held < self.old.budget }
+        ensures within { self.new.taken + length self.new.held ≤ self.new.budget }
         ensures filled { Filling result self.old self.new (S.left source.old) (S.left source.new) (S.read_count source.old) (S.read_count source.new) }
         ensures later { S.read_count source.old ≤ S.read_count source.new }
         ensures step { S.reads source.old source.new }
@@ -220,7 +226,7 @@ fn first_line_end(bytes: &[u8]) -> Option<usize>
 
 /// How one read went.
 enum Filled {
-    Some,
+    More,
     End,
     ReadFault,
     NoMemory,
@@ -238,18 +244,34 @@ fn read_more<S: Source>(buffer: &mut Vec<u8>, most: usize, source: &mut S) -> Fi
     if buffer.resize(held + most, 0).is_err() {
         return Filled::NoMemory;
     }
-    match source.read(&mut buffer[held..]) {
+    match read_behind(buffer, held, source) {
         Err(_) => {
             buffer.truncate(held);
             Filled::ReadFault
         }
-        Ok(0) => {
-            buffer.truncate(held);
-            Filled::End
-        }
         Ok(count) => {
             buffer.truncate(held + count);
-            Filled::Some
+            if count == 0 {
+                Filled::End
+            } else {
+                Filled::More
+            }
         }
     }
+}
+
+/// Reads over the bytes from a place on.
+fn read_behind<S: Source>(
+    bytes: &mut [u8],
+    at: usize,
+    source: &mut S,
+) -> Result<usize, Failed>
+    requires { at < length bytes.old }
+    ensures front { take at bytes.new ≡ take at bytes.old }
+    ensures bound { ReadsAtMost result (drop at bytes.new) }
+    ensures bytes { ReadConsumes (S.left source.old) (S.left source.new) result (drop at bytes.new) }
+    ensures cause { HasCause (S.read_count source.old) (S.read_count source.new) result }
+    ensures step { S.reads source.old source.new }
+{
+    source.read(&mut bytes[at..])
 }
