@@ -1,0 +1,72 @@
+-- Which calls a session's lines spell.
+use Rattle.std.proofs.Common.{ℕ, ◌+◌, ◌<◌, ◌≤◌, ◌≡◌, Bool, true, false, cond, List, [], ◌∷◌, length, bytes_eq, codes, refl, arith, subst, IfSome, nat_le, option_map}
+use Rattle.std.specs.declared.option.Option.{Option}
+use Rattle.std.specs.declared.option.Option.TheVariants.{None, Some}
+use Rattle.sx_call.specs.declared.call.Call.{Call}
+use Rattle.sx_call.specs.declared.call.Call.TheVariants.{SmbClose, SmbWrite}
+use Rattle.sx_call.specs.declared.call.How.{How}
+use Rattle.sx_smb_door.specs.Spelling.{spelled, call_of, words_of, is_session_call, opening, open_of, is_opening, part_of, how_of, close_of, index_of, reading, read_of, place_of, count_of, writing, write_of, bytes_of, transfer_of}
+
+-- a line that has more than seven words spells no call
+pub too_many : (share : List ℕ) (words : List (List ℕ)) → 7 < length words → spelled share words ≡ None
+too_many share [] h = refl
+too_many share (a ∷ []) h = refl
+too_many share (a ∷ b ∷ []) h = absurd (let no : ⊥ = omega (arith, h) in no)
+too_many share (a ∷ b ∷ c ∷ []) h = refl
+too_many share (a ∷ b ∷ c ∷ d ∷ []) h = absurd (let no : ⊥ = omega (arith, h) in no)
+too_many share (a ∷ b ∷ c ∷ d ∷ e ∷ []) h = refl
+too_many share (a ∷ b ∷ c ∷ d ∷ e ∷ f ∷ []) h = refl
+too_many share (a ∷ b ∷ c ∷ d ∷ e ∷ f ∷ g ∷ []) h = absurd (let no : ⊥ = omega (arith, h) in no)
+too_many share (a ∷ b ∷ c ∷ d ∷ e ∷ f ∷ g ∷ i ∷ rest) h = refl
+
+-- a call that is spelled, if there is one, is a session's
+abbrev pub IsSession : Option Call → Type 0
+IsSession call = IfSome call (λ c. is_session_call c ≡ true)
+
+either : (b : Bool) (x y : Option Call) → IsSession x → IsSession y → IsSession (cond b x y)
+either true x y h k = h
+either false x y h k = k
+
+closes : (index : Option ℕ) → IsSession (option_map SmbClose index)
+closes None = tt
+closes (Some index) = refl
+
+opens : (share : List ℕ) (part : Option (List ℕ)) (how : Option How) → IsSession (opening share part how)
+opens share None how = tt
+opens share (Some part) None = tt
+opens share (Some part) (Some how) = refl
+
+reads : (index at count : Option ℕ) → IsSession (reading index at count)
+reads None at count = tt
+reads (Some index) None count = tt
+reads (Some index) (Some at) None = tt
+reads (Some index) (Some at) (Some count) = refl
+
+writes : (index at : Option ℕ) (piece : Option (List ℕ)) → IsSession (writing index at piece)
+writes None at piece = tt
+writes (Some index) None piece = tt
+writes (Some index) (Some at) None = tt
+writes (Some index) (Some at) (Some piece) = either (nat_le (at + length piece) 65536) (Some (SmbWrite index (record { at = at; piece = piece }))) None refl tt
+
+transfers : (verb k at last : List ℕ) → IsSession (transfer_of verb k at last)
+transfers verb k at last =
+    either (bytes_eq verb (codes "read")) (read_of k at last) (cond (bytes_eq verb (codes "write")) (write_of k at last) None) (reads (index_of k) (place_of at) (count_of last))
+    (either (bytes_eq verb (codes "write")) (write_of k at last) None (writes (index_of k) (place_of at) (bytes_of last)) tt)
+
+begins : (share name part access mode how kind : List ℕ) → IsSession (open_of share name part access mode how kind)
+begins share name part access mode how kind = either (is_opening share name access mode kind) (opening share (part_of part) (how_of how)) None (opens share (part_of part) (how_of how)) tt
+
+words_spell : (share : List ℕ) (words : List (List ℕ)) → IsSession (spelled share words)
+words_spell share [] = tt
+words_spell share (a ∷ []) = tt
+words_spell share (a ∷ b ∷ []) = either (bytes_eq a (codes "close")) (close_of b) None (closes (index_of b)) tt
+words_spell share (a ∷ b ∷ c ∷ []) = tt
+words_spell share (a ∷ b ∷ c ∷ d ∷ []) = transfers a b c d
+words_spell share (a ∷ b ∷ c ∷ d ∷ e ∷ []) = tt
+words_spell share (a ∷ b ∷ c ∷ d ∷ e ∷ f ∷ []) = tt
+words_spell share (a ∷ b ∷ c ∷ d ∷ e ∷ f ∷ g ∷ []) = either (bytes_eq a (codes "open")) (open_of share b c d e f g) None (begins share b c d e f g) tt
+words_spell share (a ∷ b ∷ c ∷ d ∷ e ∷ f ∷ g ∷ i ∷ rest) = tt
+
+-- a line spells no Start, no End and no Create Share
+pub spells_session_call : (share line : List ℕ) (call : Call) → call_of share line ≡ Some call → is_session_call call ≡ true
+spells_session_call share line call e = subst IsSession e (words_spell share (words_of line))

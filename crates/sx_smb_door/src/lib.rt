@@ -1,0 +1,11 @@
+//! A session's lines: reading them, the calls that they spell, and the printed answers.
+#![tactic(auto)]
+
+mod answer;
+mod lines;
+mod tally;
+mod parse;
+
+pub use answer::{LineAnswer, print_line};
+pub use lines::{LINE_LIMIT, LineReader, NextLine};
+pub use parse::call_of_line;

@@ -1,0 +1,361 @@
+ghost use Rattle.std.specs.Prelude.{◌≡◌, ◌≤◌, ◌<◌, ◌==◌, ◌+◌, true, ℕ, List, Some, None, IfOk, MatchOption, length, map, slice_index, bytes_eq, option_map, IfSome, codes, if◌then◌else◌, nat_le, ◌&&◌};
+ghost use Rattle.std.specs.List.{list_all, list_any, range_with_len, slice_split, count_by};
+ghost use Rattle.std.specs.Char.{is_ascii_digit, is_digit};
+ghost use Rattle.std.specs.Str.Parse.{digits_value};
+ghost use Rattle.percent_encoding.specs.Percent.{percent_decode};
+ghost use Rattle.sx_smb_door.specs.Spelling.{without_return, is_number, within, number_in, index_of, place_of, count_of, decoded_bytes, bytes_of, is_bad_escape, has_bad_escape, named_part, part_of, how_of, is_opening, opening, open_of, close_of, read_of, writing, write_of, transfer_of, spelled, call_of};
+
+use hex::FromHexError;
+use percent_encoding::percent_decode;
+use std::alloc::{AllocError, Global};
+use sx_base::{Items, NoMemory};
+use sx_call::{Access, Call, How, Mode, Piece, Update};
+use sx_names::{Part, Path, ShareName, Unnamed};
+
+/// The call that a line of a session with this share spells, if it spells one (this profile's grammar of session lines).
+///
+/// These are `open SHARE PART rw rwd create|existing file` of the session's own share, PART percent-encoded (RFC 3986),
+/// `close K`, `read K AT COUNT` and `write K AT HEX`, with one space between words and at most one carriage return behind
+/// them. Numbers are decimal without leading zeros: K is 1 to 4,294,967,295, AT at most 65,536, COUNT 1 to 1,048,576. HEX is an
+/// even number of hexadecimal digits in either case, at least two, and a write ends at most at 65,536.
+pub fn call_of_line(
+    alloc: Global,
+    share: &ShareName,
+    line: &[u8],
+) -> Result<Option<Call>, NoMemory>
+    ensures { IfOk result (λ call. call ≡ call_of share.now line.now) }
+{
+    let text = without_return(line);
+    if spaces_in(text) > 6 {
+        return Ok(None);
+    }
+    let words = words_of(alloc, text)?;
+    spelled(alloc, share, &words)
+}
+
+fn without_return(line: &[u8]) -> &[u8]
+    ensures { result.now ≡ without_return line.now }
+{
+    match line {
+        [front @ .., b'\r'] => front,
+        _ => line,
+    }
+}
+
+fn spaces_in(text: &[u8]) -> usize
+    ensures { result ≡ count_by (λ b. b == 32) text.now }
+{
+    text.iter().filter(|b| **b == b' ').count()
+}
+
+fn words_of<'a>(alloc: Global, text: &'a [u8]) -> Result<Vec<&'a [u8]>, AllocError>
+    ensures { IfOk result (λ words. map (λ word. word.now) words.items ≡ slice_split (λ b. b == 32) text.now) }
+{
+    text.split(|b| *b == b' ').collect(alloc)
+}
+
+fn spelled(
+    alloc: Global,
+    share: &ShareName,
+    words: &[&[u8]],
+) -> Result<Option<Call>, NoMemory>
+    ensures { IfOk result (λ call. call ≡ spelled share.now (map (λ word. word.now) words.now)) }
+{
+    match words {
+        [verb, k] => Ok(one_word(verb, k)),
+        [verb, k, at, last] => transfer_of(alloc, verb, k, at, last),
+        [verb, name, part, access, mode, how, kind] => {
+            if *verb != b"open".as_slice() {
+                return Ok(None);
+            }
+            open_of(alloc, share, name, part, access, mode, how, kind)
+        }
+        _ => Ok(None),
+    }
+}
+
+fn one_word(verb: &[u8], k: &[u8]) -> Option<Call>
+    ensures { result ≡ (if bytes_eq verb.now (codes "close") then close_of k.now else None) }
+{
+    if verb == b"close".as_slice() {
+        close_of(k)
+    } else {
+        None
+    }
+}
+
+fn close_of(k: &[u8]) -> Option<Call>
+    ensures { result ≡ close_of k.now }
+{
+    match index_of(k) {
+        Some(index) => Some(Call::SmbClose { index }),
+        None => None,
+    }
+}
+
+fn transfer_of(
+    alloc: Global,
+    verb: &[u8],
+    k: &[u8],
+    at: &[u8],
+    last: &[u8],
+) -> Result<Option<Call>, NoMemory>
+    ensures { IfOk result (λ call. call ≡ transfer_of verb.now k.now at.now last.now) }
+{
+    if verb == b"read".as_slice() {
+        Ok(read_of(k, at, last))
+    } else if verb == b"write".as_slice() {
+        write_of(alloc, k, at, last)
+    } else {
+        Ok(None)
+    }
+}
+
+fn read_of(k: &[u8], at: &[u8], count: &[u8]) -> Option<Call>
+    ensures { result ≡ read_of k.now at.now count.now }
+{
+    let Some(index) = index_of(k) else {
+        return None;
+    };
+    let Some(at) = place_of(at) else {
+        return None;
+    };
+    let Some(count) = count_of(count) else {
+        return None;
+    };
+    Some(Call::SmbRead { index, at, count })
+}
+
+fn write_of(
+    alloc: Global,
+    k: &[u8],
+    at: &[u8],
+    hex: &[u8],
+) -> Result<Option<Call>, NoMemory>
+    ensures { IfOk result (λ call. call ≡ write_of k.now at.now hex.now) }
+{
+    let Some(index) = index_of(k) else {
+        return Ok(None);
+    };
+    let Some(at) = place_of(at) else {
+        return Ok(None);
+    };
+    let Some(bytes) = bytes_of(alloc, hex)? else {
+        return Ok(None);
+    };
+    Ok(writing(index, at, bytes))
+}
+
+/// A write of these bytes, where it ends within the limit.
+fn writing(index: u32, at: u64, bytes: Vec<u8>) -> Option<Call>
+    requires some { 1 ≤ length bytes.items }
+    requires place { at ≤ 65536 }
+    ensures { result ≡ writing (Some index) (Some at) (Some bytes.items) }
+{
+    if at + bytes.len() as u64 <= 65_536 {
+        let update = Update::of(at, Piece::of(bytes));
+        Some(Call::SmbWrite { index, update })
+    } else {
+        None
+    }
+}
+
+fn open_of(
+    alloc: Global,
+    share: &ShareName,
+    name: &[u8],
+    part: &[u8],
+    access: &[u8],
+    mode: &[u8],
+    how: &[u8],
+    kind: &[u8],
+) -> Result<Option<Call>, NoMemory>
+    ensures { IfOk result (λ call. call ≡ open_of share.now name.now part.now access.now mode.now how.now kind.now) }
+{
+    if !is_opening(share, name, access, mode, kind) {
+        return Ok(None);
+    }
+    let Some(part) = part_of(alloc, part)? else {
+        return Ok(None);
+    };
+    let Some(how) = how_of(how) else {
+        return Ok(None);
+    };
+    let call = opening(alloc, share, part, how)?;
+    Ok(Some(call))
+}
+
+fn is_opening(share: &ShareName, name: &[u8], access: &[u8], mode: &[u8], kind: &[u8]) -> bool
+    ensures { result ≡ is_opening share.now name.now access.now mode.now kind.now }
+{
+    name == share.bytes() && access == b"rw".as_slice() && mode == b"rwd".as_slice() && kind == b"file".as_slice()
+}
+
+fn opening(alloc: Global, share: &ShareName, part: Part, how: How) -> Result<Call, NoMemory>
+    ensures { IfOk result (λ call. Some call ≡ opening share.now (Some part) (Some how)) }
+{
+    let path = Path::of_part(alloc, part)?;
+    let share = share.copy(alloc)?;
+    Ok(Call::SmbOpen {
+        share,
+        path,
+        access: Access { read: true, write: true, delete: false },
+        mode: Mode { read: true, write: true, delete: true },
+        how,
+    })
+}
+
+fn how_of(word: &[u8]) -> Option<How>
+    ensures { result ≡ how_of word.now }
+{
+    if word == b"create".as_slice() {
+        Some(How::Create)
+    } else if word == b"existing".as_slice() {
+        Some(How::Existing)
+    } else {
+        None
+    }
+}
+
+/// The name that a percent-encoded word stands for, if it stands for one.
+fn part_of(alloc: Global, word: &[u8]) -> Result<Option<Part>, NoMemory>
+    ensures { IfOk result (λ part. part ≡ part_of word.now) }
+{
+    if has_bad_escape(word) {
+        return Ok(None);
+    }
+    let name = decoded(alloc, word)?;
+    named_part(alloc, &name)
+}
+
+fn named_part(alloc: Global, name: &[u8]) -> Result<Option<Part>, NoMemory>
+    ensures { IfOk result (λ part. part ≡ named_part name.now) }
+{
+    match Part::read(alloc, name) {
+        Ok(part) => Ok(Some(part)),
+        Err(Unnamed::Fault) => Ok(None),
+        Err(Unnamed::NoMemory) => Err(NoMemory),
+    }
+}
+
+fn decoded(alloc: Global, word: &[u8]) -> Result<Vec<u8>, NoMemory>
+    ensures { IfOk result (λ name. name.items ≡ percent_decode word.now) }
+{
+    let mut name = Vec::new(alloc);
+    percent_decode(word).append_to(&mut name)?;
+    Ok(name)
+}
+
+fn has_bad_escape(word: &[u8]) -> bool
+    ensures { result ≡ has_bad_escape word.now }
+{
+    (0..word.len()).any(|k| is_bad_escape(word, k))
+}
+
+fn is_bad_escape(word: &[u8], at: usize) -> bool
+    requires { at < length word.now }
+    ensures { result ≡ is_bad_escape word.now at }
+{
+    word[at] == b'%' && !(is_hex_at(word, at + 1) && is_hex_at(word, at + 2))
+}
+
+fn is_hex_at(word: &[u8], at: usize) -> bool
+    ensures { result ≡ is_digit (slice_index word.now at) 16 }
+{
+    at < word.len() && word[at].is_ascii_hexdigit()
+}
+
+/// The bytes of an even number of hexadecimal digits, at least two.
+fn bytes_of(alloc: Global, word: &[u8]) -> Result<Option<Vec<u8>>, NoMemory>
+    ensures value { IfOk result (λ bytes. option_map (λ b. b.items) bytes ≡ bytes_of word.now) }
+    ensures some { IfOk result (λ bytes. IfSome bytes (λ b. 1 ≤ length b.items)) }
+{
+    if word.is_empty() {
+        return Ok(None);
+    }
+    match hex::decode(alloc, word) {
+        Ok(bytes) => Ok(Some(bytes)),
+        Err(FromHexError::OutOfMemory) => Err(NoMemory),
+        Err(_) => Ok(None),
+    }
+}
+
+fn index_of(word: &[u8]) -> Option<u32>
+    ensures { result ≡ index_of word.now }
+{
+    match number_in(1, 4_294_967_295, word) {
+        Some(index) => Some(index as u32),
+        None => None,
+    }
+}
+
+fn place_of(word: &[u8]) -> Option<u64>
+    ensures value { result ≡ place_of word.now }
+    ensures within { IfSome result (λ at. at ≤ 65536) }
+{
+    number_in(0, 65_536, word)
+}
+
+fn count_of(word: &[u8]) -> Option<u32>
+    ensures { result ≡ count_of word.now }
+{
+    match number_in(1, 1_048_576, word) {
+        Some(count) => Some(count as u32),
+        None => None,
+    }
+}
+
+/// The number that a word is, if it is one between two limits.
+fn number_in(least: u64, most: u64, word: &[u8]) -> Option<u64>
+    ensures value { result ≡ number_in least most word.now }
+    ensures within { IfSome result (λ n. n ≤ most) }
+{
+    if !is_number(word) {
+        return None;
+    }
+    within(least, most, value_of(word))
+}
+
+fn within(least: u64, most: u64, number: u64) -> Option<u64>
+    ensures value { result ≡ within least most number }
+    ensures within { IfSome result (λ n. n ≤ most) }
+{
+    if least <= number && number <= most {
+        Some(number)
+    } else {
+        None
+    }
+}
+
+fn is_number(word: &[u8]) -> bool
+    ensures value { result ≡ is_number word.now }
+    ensures digits { result ≡ true → list_all is_ascii_digit word.now ≡ true }
+    ensures short { result ≡ true → length word.now ≤ 10 }
+{
+    1 <= word.len() && word.len() <= 10 && all_digits(word) && !has_leading_zero(word)
+}
+
+fn has_leading_zero(word: &[u8]) -> bool
+    ensures { result ≡ (nat_le 2 (length word.now) && slice_index word.now 0 == 48) }
+{
+    2 <= word.len() && word[0] == b'0'
+}
+
+fn all_digits(word: &[u8]) -> bool
+    ensures { result ≡ list_all is_ascii_digit word.now }
+{
+    word.iter().all(|b| b.is_ascii_digit())
+}
+
+/// The value of at most ten decimal digits.
+fn value_of(word: &[u8]) -> u64
+    requires short { length word.now ≤ 10 }
+    requires digits { list_all is_ascii_digit word.now ≡ true }
+    ensures { result ≡ digits_value 10 word.now }
+{
+    let mut value = 0;
+    for digit in word {
+        value = value * 10 + (*digit - b'0') as u64;
+    }
+    value
+}
