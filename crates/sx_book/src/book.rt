@@ -2,8 +2,9 @@ ghost use Rattle.std.specs.Prelude.{◌≡◌, ◌+◌, ◌<◌, ◌≤◌, ◌^
 ghost use Rattle.sx_base.specs.Moments.{greatest_moment};
 ghost use Rattle.sx_call.specs.declared.call.Call.TheVariants as Call;
 ghost use Rattle.sx_spec.specs.Account.{Account};
-ghost use Rattle.sx_spec.specs.History.{MayCome, is_refused, wants, last_moment};
+ghost use Rattle.sx_spec.specs.History.{IsHistory, MayCome, is_refused, wants, last_moment};
 ghost use Rattle.sx_spec.specs.Step.{step, replay};
+ghost use Rattle.sx_spec.specs.Whole.{IsWhole};
 
 use crate::serve::serve;
 use crate::state::State;
@@ -75,6 +76,25 @@ impl Book {
         ensures { result ≡ length (replay self.now.entries).sessions }
     {
         self.state.live()
+    }
+
+    /// How many sessions were started.
+    pub fn started(&self) -> u32
+        ensures value { result ≡ (replay self.now.entries).started }
+        ensures few { result ≤ length self.now.entries }
+        ensures within { length self.now.entries ≤ self.now.limit }
+    {
+        self.state.started
+    }
+
+    /// What a book keeps: its history is legal for its limit, the account that it leaves is whole, and each live session has a
+    /// place left for its end. It does nothing.
+    pub fn keeps(&self)
+        ensures history { IsHistory self.now.limit self.now.entries }
+        ensures whole { IsWhole (replay self.now.entries) }
+        ensures room { length self.now.entries + length (replay self.now.entries).sessions ≤ self.now.limit }
+    {
+        let _limit = self.limit;
     }
 
     /// Takes one entry into the history, and answers it.

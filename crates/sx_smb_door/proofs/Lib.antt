@@ -1,3 +1,4 @@
+pub mod Asks
 pub mod Answering
 pub mod Numbers
 pub mod SessionCalls

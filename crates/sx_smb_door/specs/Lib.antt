@@ -1,3 +1,4 @@
+pub mod Asking
 pub mod Conversation
 pub mod Limits
 pub mod Lines

@@ -3,8 +3,9 @@
 
 mod answer;
 mod lines;
-mod tally;
 mod parse;
+mod session;
+mod tally;
 
 pub use answer::{LineAnswer, print_line};
 pub use lines::{LINE_LIMIT, LineReader, NextLine};

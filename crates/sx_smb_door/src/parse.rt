@@ -18,11 +18,7 @@ use sx_names::{Part, Path, ShareName, Unnamed};
 /// `close K`, `read K AT COUNT` and `write K AT HEX`, with one space between words and at most one carriage return behind
 /// them. Numbers are decimal without leading zeros: K is 1 to 4,294,967,295, AT at most 65,536, COUNT 1 to 1,048,576. HEX is an
 /// even number of hexadecimal digits in either case, at least two, and a write ends at most at 65,536.
-pub fn call_of_line(
-    alloc: Global,
-    share: &ShareName,
-    line: &[u8],
-) -> Result<Option<Call>, NoMemory>
+pub fn call_of_line(alloc: Global, share: &ShareName, line: &[u8]) -> Result<Option<Call>, NoMemory>
     ensures { IfOk result (λ call. call ≡ call_of share.now line.now) }
 {
     let text = without_return(line);
@@ -54,11 +50,7 @@ fn words_of<'a>(alloc: Global, text: &'a [u8]) -> Result<Vec<&'a [u8]>, AllocErr
     text.split(|b| *b == b' ').collect(alloc)
 }
 
-fn spelled(
-    alloc: Global,
-    share: &ShareName,
-    words: &[&[u8]],
-) -> Result<Option<Call>, NoMemory>
+fn spelled(alloc: Global, share: &ShareName, words: &[&[u8]]) -> Result<Option<Call>, NoMemory>
     ensures { IfOk result (λ call. call ≡ spelled share.now (map (λ word. word.now) words.now)) }
 {
     match words {
@@ -126,12 +118,7 @@ fn read_of(k: &[u8], at: &[u8], count: &[u8]) -> Option<Call>
     Some(Call::SmbRead { index, at, count })
 }
 
-fn write_of(
-    alloc: Global,
-    k: &[u8],
-    at: &[u8],
-    hex: &[u8],
-) -> Result<Option<Call>, NoMemory>
+fn write_of(alloc: Global, k: &[u8], at: &[u8], hex: &[u8]) -> Result<Option<Call>, NoMemory>
     ensures { IfOk result (λ call. call ≡ write_of k.now at.now hex.now) }
 {
     let Some(index) = index_of(k) else {
@@ -188,7 +175,10 @@ fn open_of(
 fn is_opening(share: &ShareName, name: &[u8], access: &[u8], mode: &[u8], kind: &[u8]) -> bool
     ensures { result ≡ is_opening share.now name.now access.now mode.now kind.now }
 {
-    name == share.bytes() && access == b"rw".as_slice() && mode == b"rwd".as_slice() && kind == b"file".as_slice()
+    name == share.bytes()
+        && access == b"rw".as_slice()
+        && mode == b"rwd".as_slice()
+        && kind == b"file".as_slice()
 }
 
 fn opening(alloc: Global, share: &ShareName, part: Part, how: How) -> Result<Call, NoMemory>
@@ -199,8 +189,16 @@ fn opening(alloc: Global, share: &ShareName, part: Part, how: How) -> Result<Cal
     Ok(Call::SmbOpen {
         share,
         path,
-        access: Access { read: true, write: true, delete: false },
-        mode: Mode { read: true, write: true, delete: true },
+        access: Access {
+            read: true,
+            write: true,
+            delete: false,
+        },
+        mode: Mode {
+            read: true,
+            write: true,
+            delete: true,
+        },
         how,
     })
 }

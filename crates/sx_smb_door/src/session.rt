@@ -1,0 +1,99 @@
+ghost use Rattle.std.specs.Prelude.{◌≡◌, ◌+◌, ◌-◌, ◌<◌, ◌≤◌, ◌^◌, ◌⊎◌, true, ℕ, Err, IfOk, OnOk, OnErr, length};
+ghost use Rattle.std.specs.Io.KnownBytes.{prepend_known};
+ghost use Rattle.sx_base.specs.Moments.{greatest_moment};
+ghost use Rattle.sx_call.specs.declared.call.Call.TheVariants as Call;
+ghost use Rattle.sx_spec.specs.Account.{session_of};
+ghost use Rattle.sx_spec.specs.History.{is_of_caller, wants};
+ghost use Rattle.sx_spec.specs.Step.{replay, step};
+ghost use Rattle.sx_smb_door.specs.Conversation.{Outcome, Speaker, MayTurn, history_after, answer_of, moments_of, tally_after, entry_of, start_entry, end_entry, with_entry, next_session, full_of, Side, Served, Conversation};
+ghost use Rattle.sx_smb_door.specs.Asking.{IsLive, IsAnswered};
+ghost use Rattle.sx_smb_door.specs.SessionLines.{has_line, is_printed};
+ghost use Rattle.sx_smb_door.specs.Spelling.{is_session_call};
+
+use crate::answer::{LineAnswer, print_line};
+use crate::lines::{LineReader, NextLine};
+use crate::parse::call_of_line;
+use crate::tally::Tally;
+use std::alloc::Global;
+use sx_base::{Clock, Link};
+use sx_book::{Book, ConnEnd, ConnReport, Full};
+use sx_call::{Call, Entry, Reply, Stop};
+use sx_names::ShareName;
+
+/// Who speaks in which session.
+#[derive(Clone, Copy)]
+struct Party {
+    who: u32,
+    session: u32,
+}
+
+/// Starts a session of a caller.
+fn start(book: &mut Book, who: u32, now: u64, peer: u32) -> Result<u32, Stop>
+    requires { now ≤ greatest_moment }
+    ensures number { IfOk result (λ session. session ≡ next_session book.old.entries) }
+    ensures entries { OnOk result (book.new ≡ record { entries = with_entry book.old.entries (start_entry who book.old.entries now peer); limit = book.old.limit }) }
+    ensures room { OnOk result (length book.old.entries + wants (replay book.old.entries) (Call.Start peer) ≤ book.old.limit) }
+    ensures live { IfOk result (λ session. IsLive book.new.entries who session) }
+    ensures full { (entries sessions limit : ℕ) → result ≡ Err (Stop.HistoryFull entries sessions limit) →
+        (book.old.limit < length book.old.entries + wants (replay book.old.entries) (Call.Start peer)) × (record { entries = entries; sessions = sessions; limit = limit } ≡ full_of book.old.limit book.old.entries) }
+    ensures err { OnErr result (book.new ≡ book.old) }
+{
+    book.keeps();
+    let at = now.max(book.last_moment());
+    let session = book.started() + 1;
+    let entry = Entry {
+        who,
+        session: 0,
+        at,
+        fresh: 0,
+        call: Call::Start { peer },
+    };
+    match book.step(entry) {
+        Ok(_) => Ok(session),
+        Err(stop) => Err(stop),
+    }
+}
+
+/// Ends a session. It can't be refused.
+fn end(book: &mut Book, party: Party, now: u64)
+    requires clock { now ≤ greatest_moment }
+    requires live { IsLive book.old.entries party.who party.session }
+    ensures { book.new ≡ record { entries = with_entry book.old.entries (end_entry party.who party.session book.old.entries now); limit = book.old.limit } }
+{
+    let at = now.max(book.last_moment());
+    let entry = Entry {
+        who: party.who,
+        session: party.session,
+        at,
+        fresh: 0,
+        call: Call::End,
+    };
+    match book.step(entry) {
+        Ok(_) => {}
+        Err(_) => unreachable!(),
+    }
+}
+
+/// Asks a call of a session.
+fn ask(book: &mut Book, party: Party, now: u64, call: Call) -> Result<Reply, Stop>
+    requires clock { now ≤ greatest_moment }
+    requires live { IsLive book.old.entries party.who party.session }
+    requires call { is_session_call call ≡ true }
+    ensures reply { IfOk result (λ reply. reply ≡ (step (replay book.old.entries) (entry_of party.who party.session book.old.entries now call)).1) }
+    ensures lined { IfOk result (λ reply. has_line reply ≡ true) }
+    ensures entries { OnOk result (book.new ≡ record { entries = with_entry book.old.entries (entry_of party.who party.session book.old.entries now call); limit = book.old.limit }) }
+    ensures room { OnOk result (length book.old.entries + wants (replay book.old.entries) call ≤ book.old.limit) }
+    ensures full { (entries sessions limit : ℕ) → result ≡ Err (Stop.HistoryFull entries sessions limit) →
+        (book.old.limit < length book.old.entries + wants (replay book.old.entries) call) × (record { entries = entries; sessions = sessions; limit = limit } ≡ full_of book.old.limit book.old.entries) }
+    ensures err { OnErr result (book.new ≡ book.old) }
+    ensures live { IsLive book.new.entries party.who party.session }
+{
+    let at = now.max(book.last_moment());
+    book.step(Entry {
+        who: party.who,
+        session: party.session,
+        at,
+        fresh: 0,
+        call,
+    })
+}
