@@ -12,6 +12,9 @@ use Rattle.sx_call.specs.declared.call.How.TheVariants.{Existing, Create}
 use Rattle.sx_call.specs.declared.held.Live.{Live}
 use Rattle.sx_call.specs.declared.held.Open.{Open}
 use Rattle.sx_call.specs.declared.reply.Refusal.{Refusal}
+use Rattle.sx_call.specs.declared.reply.Refusal.TheVariants as refusal
+use Rattle.sx_call.specs.declared.reply.Reply.{Reply}
+use Rattle.sx_call.specs.declared.reply.Stop.{Stop}
 use Rattle.sx_guard.specs.declared.handle.Access.{Access}
 use Rattle.sx_guard.specs.declared.handle.Mode.{Mode}
 use Rattle.sx_tree.specs.declared.node.Found.{Found}
@@ -20,10 +23,15 @@ use Rattle.sx_tree.specs.declared.node.Node.{Node}
 use Rattle.sx_tree.specs.Files.{is_directory}
 use Rattle.sx_spec.specs.Account.{Account, empty, is_session, session_of, open_of, place_of, node_in}
 use Rattle.sx_spec.specs.FirstRefusal.{first, first_open, first_of, share_check, parent_check, node_check, node_found, kind_check, kind_found, file_wanted, handle_check}
-use Rattle.sx_spec.specs.History.{is_of_caller, is_in_session}
+use Rattle.sx_spec.specs.History.{History, is_of_caller, is_in_session}
+use Rattle.sx_spec.specs.Whole.{IsWhole, IsLive as IsLiveSession}
+use Rattle.std.specs.List.{AllByRecursion}
+use Rattle.std.specs.Prelude.{Result, Ok, Err, IfOk, OnErr}
+use Rattle.std.proofs.lemmas.Bool.Decides.{nat_tests}
 use Rattle.sx_spec.specs.Step.{step, outcome, replay, changed, said, grant, opens_in, opens_at, opens_say, opened_says, made_and_opened, last_part, writes_at}
 use Rattle.sx_spec.proofs.Histories.{after_more}
-use Rattle.sx_smb_door.specs.Conversation.{with_entry, entry_of}
+use Rattle.sx_smb_door.specs.Asking.{IsLive}
+use Rattle.sx_smb_door.specs.Conversation.{with_entry, start_entry, next_session}
 use Rattle.sx_smb_door.specs.SessionLines.{has_line, has_word}
 use Rattle.sx_smb_door.specs.Spelling.{is_session_call}
 
@@ -78,6 +86,38 @@ lives_on who q ns e h live =
     ap (λ (a : Account). is_of_caller who (session_of a q)) (after_more empty ns _)
     ∙ outcome_caller who q (replay ns) e.who e.session e.at e.call (first (replay ns) e.session e.call) h ∙ live
 
+-- asked or stopped, the session lives on
+pub asked_live : (who q : ℕ) (r : Result Reply Stop) (old new : History) (e : Entry) → is_session_call e.call ≡ true → IsLive old.entries who q
+    → IfOk r (λ reply. new ≡ record { entries = with_entry old.entries e; limit = old.limit }) → OnErr r (new ≡ old) → IsLive new.entries who q
+asked_live who q (Ok reply) old new e h live entries err =
+    subst (λ (k : History). IsLive k.entries who q) (sym entries) (lives_on who q old.entries e h live)
+asked_live who q (Err stop) old new e h live entries err = subst (λ (k : History). IsLive k.entries who q) (sym err) live
+
+-- ---- a session that was started
+is_caller : (who s peer : ℕ) → is_of_caller who (cond (s == s) (Some (record { session = s; who = who; peer = peer; granted = 0 })) None) ≡ true
+is_caller who s peer =
+    let same : (s == s) ≡ true = grind (arith, nat_tests) in
+    let me : (who == who) ≡ true = grind (arith, nat_tests) in
+    rw (same, me) refl
+
+last_found : (who peer started came : ℕ) (ls : List Live) → AllByRecursion (IsLiveSession started came) ls
+    → is_of_caller who (find (is_session (started + 1)) (ls ++ record { session = started + 1; who = who; peer = peer; granted = 0 } ∷ [])) ≡ true
+last_found who peer started came [] all = is_caller who (started + 1) peer
+last_found who peer started came (l ∷ ls) all =
+    let le = all.0.started in
+    let other : (l.session == started + 1) ≡ false = grind (arith, nat_tests) in
+    rw other (last_found who peer started came ls all.1)
+
+-- its number is the next one
+pub started_number : (ns : List Noted) (who moment peer : ℕ) → (replay (with_entry ns (start_entry who ns moment peer))).started ≡ next_session ns
+started_number ns who moment peer = ap (λ (a : Account). a.started) (after_more empty ns _)
+
+-- it is live, and its caller's
+pub started_live : (ns : List Noted) (who moment peer : ℕ) → IsWhole (replay ns) → IsLive (with_entry ns (start_entry who ns moment peer)) who (next_session ns)
+started_live ns who moment peer w =
+    ap (λ (a : Account). is_of_caller who (session_of a (next_session ns))) (after_more empty ns _)
+    ∙ last_found who peer (replay ns).started (replay ns).came (replay ns).sessions w.live
+
 -- a session's call stands in a session of its caller
 pub in_session : (a : Account) (who s : ℕ) (call : Call) → is_session_call call ≡ true → is_of_caller who (session_of a s) ≡ true → is_in_session a who s call ≡ true
 in_session a who s (CreateShare share quota) h live = absurd (false_true h)
@@ -120,7 +160,7 @@ node_word Create (found.NoParent parts) = tt
 wanted_word : (id : ℕ) (n : Option Node) → HasWord (file_wanted id n)
 unfolding HasWord
 wanted_word id None = tt
-wanted_word id (Some node) = elim (is_directory node.kind) as (λ b. HasWord (cond b (Some _) None)) [ true ↦ refl | false ↦ tt ]
+wanted_word id (Some node) = elim (is_directory node.kind) as (λ b. HasWord (cond b (Some (refusal.IsDirectory id)) None)) [ true ↦ refl | false ↦ tt ]
 
 kind_word : (a : Account) (n : ℕ) (f : Found) → HasWord (kind_found a n f)
 unfolding HasWord

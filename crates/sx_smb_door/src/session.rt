@@ -40,7 +40,6 @@ fn start(book: &mut Book, who: u32, now: u64, peer: u32) -> Result<u32, Stop>
 {
     book.keeps();
     let at = now.max(book.last_moment());
-    let session = book.started() + 1;
     let entry = Entry {
         who,
         session: 0,
@@ -49,7 +48,7 @@ fn start(book: &mut Book, who: u32, now: u64, peer: u32) -> Result<u32, Stop>
         call: Call::Start { peer },
     };
     match book.step(entry) {
-        Ok(_) => Ok(session),
+        Ok(_) => Ok(book.started()),
         Err(stop) => Err(stop),
     }
 }

@@ -1,0 +1,2 @@
+use Rattle.sx_smb_door.proofs.Asks.{started_live, started_number}
+use Rattle.sx_smb_door.proofs.session.start.Goals as goal
