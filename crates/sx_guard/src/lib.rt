@@ -2,5 +2,11 @@
 #![tactic(auto)]
 
 mod handle;
+mod locks;
+mod memory;
+mod sharing;
 
 pub use handle::{Access, HandleId, Mode};
+pub use locks::{Held, LockFault, Locks};
+pub use memory::NoMemory;
+pub use sharing::{Opened, Sharing};
