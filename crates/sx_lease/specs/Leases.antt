@@ -1,5 +1,5 @@
 -- The table of lease actions, and the rule by which a call that gives a lease id, or none, is checked.
-use Rattle.std.specs.Prelude.{Bool, true, false, ◌==◌, if◌then◌else◌, Option, Some, None}
+use Rattle.std.specs.Prelude.{Bool, ◌==◌, if◌then◌else◌, Option, Some, None}
 use Rattle.sx_lease.specs.declared.lease.LeaseId.{LeaseId}
 use Rattle.sx_lease.specs.declared.lease.LeaseState.{LeaseState}
 use Rattle.sx_lease.specs.declared.lease.LeaseState.TheVariants.{Available, Leased, Broken}

@@ -116,8 +116,9 @@ impl LeaseState {
         match (*self, given) {
             (LeaseState::Leased(_), None) if writes => LeaseCheck::Held,
             (LeaseState::Leased(held), Some(id)) if id != held => LeaseCheck::Other,
-            (LeaseState::Leased(_), _) | (_, None) => LeaseCheck::Pass,
-            (_, Some(_)) => LeaseCheck::NoLease,
+            (LeaseState::Leased(_), _) => LeaseCheck::Pass,
+            (LeaseState::Available | LeaseState::Broken, None) => LeaseCheck::Pass,
+            (LeaseState::Available | LeaseState::Broken, Some(_)) => LeaseCheck::NoLease,
         }
     }
 

@@ -4,6 +4,8 @@
 mod file;
 mod lease;
 mod share;
+#[cfg(test)]
+mod tests;
 
 pub use file::FileLease;
 pub use lease::{LeaseCheck, LeaseId, LeaseSay, LeaseState};
