@@ -1,12 +1,11 @@
 -- What each call keeps of the lists of opens and of locks.
-use Rattle.std.proofs.Common.{◌≡◌, ℕ, ◌<◌, Bool, true, false, not, List, [], ◌∷◌, Option, Some, None, IfSome, All, AllPairs, filter, find, option_map, refl, ap, arith}
+use Rattle.std.proofs.Common.{◌≡◌, ◌<◌, Bool, true, false, not, List, Option, Some, None, IfSome, All, filter, find, option_map, refl}
 use Rattle.std.specs.List.{list_any}
 use Rattle.std.proofs.lemmas.List.Elements.{All-filter, All-weaker}
 use Rattle.std.proofs.lemmas.List.Kept.{AllPairs-filter}
 use Rattle.sx_guard.specs.declared.handle.HandleId.{HandleId}
 use Rattle.sx_guard.specs.declared.sharing.Opened.{Opened}
 use Rattle.sx_guard.specs.declared.locks.Held.{Held}
-use Rattle.sx_guard.specs.Handles.{same_handle, handle_before}
 use Rattle.sx_guard.specs.Ordered.{insert_by, remove_first, IsLeast}
 use Rattle.sx_guard.specs.ShareModes.{AreOpens, IsLeastHandle, first_handle, has_handle, opened_before}
 use Rattle.sx_guard.specs.LockConflict.{AreLocks, forbids_lock, lock_before}

@@ -1,10 +1,10 @@
 -- The orders of handles and of locks.
-use Rattle.std.proofs.Common.{◌≡◌, Bool, true, false, not, ◌||◌, nat_lt, max, min, refl, ap, ◌∙◌, arith}
+use Rattle.std.proofs.Common.{◌≡◌, true, false, arith}
 use Rattle.std.proofs.lemmas.Bool.Decides.{nat_tests}
 use Rattle.sx_guard.specs.declared.handle.HandleId.{HandleId}
 use Rattle.sx_guard.specs.declared.locks.Held.{Held}
 use Rattle.sx_guard.specs.Handles.{same_handle, handle_before}
-use Rattle.sx_guard.specs.LockConflict.{lock_before, forbids_lock, meets}
+use Rattle.sx_guard.specs.LockConflict.{lock_before, forbids_lock}
 
 -- no handle comes before itself
 pub handle_same : (a : HandleId) → handle_before a a ≡ false

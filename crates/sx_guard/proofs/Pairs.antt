@@ -1,5 +1,5 @@
 -- Lists whose items stand in a relation to all later ones, and what `insert_by`, `find` and `remove_first` do to them.
-use Rattle.std.proofs.Common.{◌≡◌, ℕ, ◌+◌, ◌<◌, suc, Bool, true, false, not, if◌then◌else◌, List, [], ◌∷◌, length, get_or, Option, Some, All, AllPairs, Contains, filter, find, refl, subst, arith}
+use Rattle.std.proofs.Common.{◌≡◌, suc, Bool, true, false, if◌then◌else◌, List, [], ◌∷◌, get_or, Some, All, AllPairs, Contains, find, refl, subst, arith}
 use Rattle.std.proofs.lemmas.List.Elements.{All-nil, All-cons, All-head, All-tail, All-weaker}
 use Rattle.std.proofs.lemmas.List.Kept.{AllPairs-cons}
 use Rattle.sx_guard.specs.Ordered.{insert_by, remove_first, IsLeast}

@@ -1,5 +1,5 @@
 -- The places at which code inserts and removes, against the words of `Ordered`.
-use Rattle.std.proofs.Common.{◌≡◌, ℕ, ◌+◌, ◌<◌, ◌≤◌, suc, nat_lt, Bool, true, false, not, if◌then◌else◌, List, [], ◌∷◌, Option, Some, None, MatchOption, IsSomeAnd, option_map, All, AllPairs, filter, find, insert, is_some, length, position, remove, unwrap_or, refl, ap, ◌∙◌, ◌||◌, sym, arith}
+use Rattle.std.proofs.Common.{◌≡◌, ℕ, ◌+◌, ◌≤◌, suc, nat_lt, Bool, true, false, not, if◌then◌else◌, List, [], ◌∷◌, Option, Some, None, MatchOption, IsSomeAnd, option_map, All, AllPairs, filter, find, insert, length, position, remove, unwrap_or, refl, ap, ◌∙◌, ◌||◌, sym, arith}
 use Rattle.std.specs.List.{list_any, position_or_len}
 use Rattle.std.proofs.lemmas.Bool.Decides.{nat_tests}
 use Rattle.std.proofs.lemmas.List.Sums.{prefix_len-le-length}

@@ -1,5 +1,5 @@
 -- What byte-range locks forbid.
-use Rattle.std.specs.Prelude.{◌≡◌, ℕ, ◌<◌, ◌≤◌, min, max, Bool, true, false, not, ◌==◌, ◌&&◌, ◌||◌, nat_lt, Option, Some, None, List, All, AllPairs}
+use Rattle.std.specs.Prelude.{◌≡◌, ℕ, ◌<◌, ◌≤◌, min, max, Bool, false, not, ◌==◌, ◌&&◌, ◌||◌, nat_lt, Option, Some, None, List, All, AllPairs}
 use Rattle.std.specs.Bool.{beq}
 use Rattle.sx_guard.specs.declared.handle.HandleId.{HandleId}
 use Rattle.sx_guard.specs.declared.locks.Held.{Held}

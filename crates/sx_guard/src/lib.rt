@@ -5,6 +5,8 @@ mod handle;
 mod locks;
 mod memory;
 mod sharing;
+#[cfg(test)]
+mod tests;
 
 pub use handle::{Access, HandleId, Mode};
 pub use locks::{Held, LockFault, Locks};

@@ -17,10 +17,12 @@ pub struct Held {
     pub exclusive: bool,
 }
 
-/// Why a lock isn't granted: the least lock that meets it, or want of memory.
+/// Why a lock isn't granted.
 #[derive(Clone, Copy, Debug, PartialEq, Eq)]
 pub enum LockFault {
+    /// This lock is in the way.
     Meets(Held),
+    /// No lock is in the way, and there was no memory for the new one.
     NoMemory,
 }
 
@@ -79,6 +81,9 @@ impl Held {
 }
 
 /// The byte-range locks of one file, in order of handle, start and end. Contracts see it as the list of them.
+///
+/// The rules are those of "Managing file locks in Azure Files" and of SMB's byte-range locks: exclusive locks keep others from
+/// reading and writing, shared locks keep everybody from writing. A REST call holds no lock and comes by no handle.
 #[derive(Debug, Drop)]
 pub struct Locks {
     locks: Vec<Held>,
@@ -114,7 +119,8 @@ impl Locks {
         self.locks.len() as u64
     }
 
-    /// The lock that forbids a read of an interval by a handle, or by none: the one with the least handle, then start, then end.
+    /// The lock that forbids a read of an interval by a handle, or by a call that comes by none: an exclusive lock of another handle.
+    /// Of several it is the one with the least handle, then start, then end.
     pub fn forbids_read(&self, by: Option<HandleId>, from: u64, end: u64) -> Option<Held>
         ensures first { result ≡ find (forbids_read by from end) self.now }
         ensures least { IfSome result (IsLeast lock_before (forbids_read by from end) self.now) }
@@ -126,7 +132,8 @@ impl Locks {
             .copied()
     }
 
-    /// The lock that forbids a write of an interval by a handle, or by none: the one with the least handle, then start, then end.
+    /// The lock that forbids a write of an interval by a handle, or by a call that comes by none: a lock of another handle, or a
+    /// shared one of its own. Of several it is the one with the least handle, then start, then end.
     pub fn forbids_write(&self, by: Option<HandleId>, from: u64, end: u64) -> Option<Held>
         ensures first { result ≡ find (forbids_write by from end) self.now }
         ensures least { IfSome result (IsLeast lock_before (forbids_write by from end) self.now) }
@@ -138,7 +145,9 @@ impl Locks {
             .copied()
     }
 
-    /// Locks an interval for a handle. Where a lock forbids it, that with the least handle, then start, then end is named.
+    /// Locks an interval for a handle: a shared lock where it meets no exclusive one, an exclusive lock where it meets none, the
+    /// handle's own included. Else it answers Meets, with the lock in the way that has the least handle, then start, then end.
+    /// NoMemory comes only where the lock would be granted. After either answer the locks are as before.
     pub fn lock(
         &mut self,
         by: HandleId,
@@ -147,10 +156,14 @@ impl Locks {
         exclusive: bool,
     ) -> Result<(), LockFault>
         requires { from < end }
-        ensures answer { MatchOption (find (forbids_lock exclusive from end) self.old) (IsOkUnless result LockFault.NoMemory) (λ lock. result ≡ Err (LockFault.Meets lock)) }
-        ensures least { IfSome (find (forbids_lock exclusive from end) self.old) (IsLeast lock_before (forbids_lock exclusive from end) self.old) }
+        ensures answer { MatchOption (find (forbids_lock exclusive from end) self.old)
+            (IsOkUnless result LockFault.NoMemory)
+            (λ lock. result ≡ Err (LockFault.Meets lock)) }
+        ensures least { IfSome (find (forbids_lock exclusive from end) self.old)
+            (IsLeast lock_before (forbids_lock exclusive from end) self.old) }
         ensures free { OnOk result (All (λ lock. forbids_lock exclusive from end lock ≡ false) self.old) }
-        ensures ok { OnOk result (self.new ≡ insert_by lock_before (record { handle = by; from = from; end = end; exclusive = exclusive }) self.old) }
+        ensures ok { OnOk result (self.new ≡ insert_by lock_before
+            (record { handle = by; from = from; end = end; exclusive = exclusive }) self.old) }
         ensures err { OnErr result (self.new ≡ self.old) }
     {
         if let Some(lock) = self.forbids_lock(exclusive, from, end) {

@@ -9,7 +9,7 @@ use crate::memory::NoMemory;
 use std::alloc::Global;
 use std::marker::Model;
 
-/// An open of a file: its handle, the rights that it has and the rights that it leaves to others.
+/// An open of a file or directory: its handle, the rights that it has and the rights that it leaves to others.
 #[derive(Clone, Copy, Debug, PartialEq, Eq)]
 pub struct Opened {
     pub handle: HandleId,
@@ -28,7 +28,10 @@ impl Opened {
     }
 }
 
-/// The opens of one file, in order of handle. Contracts see it as the list of them.
+/// The opens of one file or directory, in order of handle. Contracts see it as the list of them.
+///
+/// The rule is SMB's for share modes: an open and a new one can stand together where each has only rights that the other's share
+/// mode leaves to others. An open that asks for no right stands beside any other.
 #[derive(Debug, Drop)]
 pub struct Sharing {
     opens: Vec<Opened>,
@@ -64,21 +67,20 @@ impl Sharing {
         self.opens.len() as u64
     }
 
-    /// Adds an open at its place in the order. Without memory there is no change.
+    /// Adds the open of a handle that has none here, at its place in the order. Without memory there is no change.
     pub fn add(&mut self, handle: HandleId, access: Access, mode: Mode) -> Result<(), NoMemory>
         requires { list_any (has_handle handle) self.old ≡ false }
-        ensures ok { OnOk result (self.new ≡ insert_by opened_before (record { handle = handle; access = access; mode = mode }) self.old) }
+        ensures ok { OnOk result (self.new ≡ insert_by opened_before
+            (record { handle = handle; access = access; mode = mode }) self.old) }
         ensures err { OnErr result (self.new ≡ self.old) }
     {
         let at = place_for(&self.opens, handle);
-        match self.opens.insert(
-            at,
-            Opened {
-                handle,
-                access,
-                mode,
-            },
-        ) {
+        let open = Opened {
+            handle,
+            access,
+            mode,
+        };
+        match self.opens.insert(at, open) {
             Ok(()) => Ok(()),
             Err(_) => Err(NoMemory),
         }

@@ -1,8 +1,7 @@
 use Rattle.std.proofs.Common.{◌≡◌, insert, ap, sym, ◌∙◌, None, find}
 use Rattle.std.specs.List.{position_or_len}
 use Rattle.sx_guard.specs.declared.locks.Held.{Held}
-use Rattle.sx_guard.specs.Ordered.{insert_by}
-use Rattle.sx_guard.specs.LockConflict.{AreLocks, forbids_lock, lock_before}
+use Rattle.sx_guard.specs.LockConflict.{forbids_lock, lock_before}
 use Rattle.sx_guard.proofs.Kept.{AreLocks-insert}
 use Rattle.sx_guard.proofs.Places.{insert_by-is}
 use Rattle.sx_guard.proofs.locks.Locks.lock.Goals as goal

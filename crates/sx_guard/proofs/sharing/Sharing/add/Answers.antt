@@ -1,8 +1,7 @@
 use Rattle.std.proofs.Common.{◌≡◌, insert, ap, sym, ◌∙◌}
 use Rattle.std.specs.List.{position_or_len}
 use Rattle.sx_guard.specs.declared.sharing.Opened.{Opened}
-use Rattle.sx_guard.specs.Ordered.{insert_by}
-use Rattle.sx_guard.specs.ShareModes.{AreOpens, opened_before}
+use Rattle.sx_guard.specs.ShareModes.{opened_before}
 use Rattle.sx_guard.proofs.Kept.{AreOpens-insert}
 use Rattle.sx_guard.proofs.Places.{insert_by-is}
 use Rattle.sx_guard.proofs.sharing.Sharing.add.Goals as goal

@@ -1,4 +1,4 @@
-use Rattle.std.proofs.Common.{◌≡◌, find, option_map, subst, ◌∙◌, ap, rules, tests}
+use Rattle.std.proofs.Common.{option_map, subst, ◌∙◌, ap, rules, tests}
 use Rattle.std.proofs.lemmas.Iterator.{YieldsList-from_slice}
 use Rattle.std.proofs.lemmas.Iterator.Search.{find_from_yields_List}
 use Rattle.sx_guard.specs.declared.sharing.Opened.{Opened}

@@ -1,6 +1,6 @@
 use Rattle.std.proofs.Common.{◌≡◌, Some, None, position, subst, sym, ◌∙◌}
 use Rattle.sx_guard.specs.ShareModes.{AreOpens, has_handle}
-use Rattle.sx_guard.proofs.Kept.{AreOpens-remove_first, remove_first-opens}
+use Rattle.sx_guard.proofs.Kept.{remove_first-opens}
 use Rattle.sx_guard.proofs.Places.{place-Some, place-None, remove-place, remove_first-none}
 use Rattle.sx_guard.proofs.sharing.Sharing.remove.Goals as goal
 
