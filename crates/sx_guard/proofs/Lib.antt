@@ -2,3 +2,4 @@ pub mod Pairs
 pub mod Places
 pub mod Orders
 pub mod Kept
+pub mod Views
