@@ -1,3 +1,6 @@
+ghost use Rattle.std.specs.Prelude.{◌≡◌};
+ghost use Rattle.sx_guard.specs.ShareModes.{exceeds, is_empty};
+
 /// The identity of an open handle: the session that opened it and the handle's index in that session, both from 1.
 ///
 /// Handles are ordered by session, then index, and are printed `SESSION.INDEX`.
@@ -21,4 +24,20 @@ pub struct Mode {
     pub read: bool,
     pub write: bool,
     pub delete: bool,
+}
+
+impl Access {
+    /// Whether no right is asked for.
+    pub fn is_empty(self) -> bool
+        ensures { result ≡ is_empty self }
+    {
+        !self.read && !self.write && !self.delete
+    }
+
+    /// Whether there is a right here that the share mode leaves to nobody else.
+    pub fn exceeds(self, mode: Mode) -> bool
+        ensures { result ≡ exceeds self mode }
+    {
+        self.read && !mode.read || self.write && !mode.write || self.delete && !mode.delete
+    }
 }

@@ -23,7 +23,7 @@ use Rattle.sx_tree.specs.declared.node.Node.{Node}
 use Rattle.sx_tree.specs.Files.{is_directory}
 use Rattle.sx_spec.specs.Account.{Account, empty, is_session, session_of, open_of, place_of, node_in}
 use Rattle.sx_spec.specs.FirstRefusal.{first, first_open, first_of, share_check, parent_check, node_check, node_found, kind_check, kind_found, file_wanted, handle_check}
-use Rattle.sx_spec.specs.History.{History, is_of_caller, is_in_session}
+use Rattle.sx_spec.specs.History.{History, is_of_caller, is_in_session, is_refused}
 use Rattle.sx_spec.specs.Whole.{IsWhole, IsLive as IsLiveSession}
 use Rattle.std.specs.List.{AllByRecursion}
 use Rattle.std.specs.Prelude.{Result, Ok, Err, IfOk, OnErr}
@@ -85,6 +85,13 @@ pub lives_on : (who q : ℕ) (ns : List Noted) (e : Entry) → is_session_call e
 lives_on who q ns e h live =
     ap (λ (a : Account). is_of_caller who (session_of a q)) (after_more empty ns _)
     ∙ outcome_caller who q (replay ns) e.who e.session e.at e.call (first (replay ns) e.session e.call) h ∙ live
+
+-- the entry as it was answered is the one that the history keeps
+pub noted_entries : (r : Result Reply Stop) (new : History) (limit : ℕ) (ns : List Noted) (e : Entry)
+    → IfOk r (λ reply. new ≡ record { entries = ns ++ record { entry = e; refused = is_refused reply } ∷ []; limit = limit }) → IfOk r (λ reply. reply ≡ (step (replay ns) e).1)
+    → IfOk r (λ reply. new ≡ record { entries = with_entry ns e; limit = limit })
+noted_entries (Ok reply) new limit ns e h k = h ∙ ap (λ (x : Reply). record { entries = ns ++ record { entry = e; refused = is_refused x } ∷ []; limit = limit }) k
+noted_entries (Err stop) new limit ns e h k = tt
 
 -- asked or stopped, the session lives on
 pub asked_live : (who q : ℕ) (r : Result Reply Stop) (old new : History) (e : Entry) → is_session_call e.call ≡ true → IsLive old.entries who q

@@ -1,0 +1,5 @@
+pub mod Pairs
+pub mod Places
+pub mod Orders
+pub mod Kept
+pub mod Views

@@ -1,0 +1,4 @@
+pub mod Ordered
+pub mod Handles
+pub mod ShareModes
+pub mod LockConflict

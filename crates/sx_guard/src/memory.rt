@@ -1,0 +1,3 @@
+/// There was no memory for the call, and all is as before.
+#[derive(Clone, Copy, Debug, PartialEq, Eq)]
+pub struct NoMemory;
