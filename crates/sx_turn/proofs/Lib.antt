@@ -1,0 +1,5 @@
+pub mod Views
+pub mod Keeps
+pub mod Hands
+pub mod Calls
+pub mod Words
