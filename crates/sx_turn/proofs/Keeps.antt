@@ -115,7 +115,7 @@ module _ {B E : Type 0} (stands : B → List E) (who : E → ℕ) where
         };
         count = f.count;
       }
-      (λ j u ne e g. record { history = g.history; queue = record { ticket = (λ t e. let q = g.queue.ticket t e in (q.0, omega arith)); turn = g.queue.turn; }; count = g.count })
+      (λ j u ne e g. record { history = g.history; queue = record { ticket = (λ t e. let q = g.queue.ticket t e in (q.0, omega arith)); turn = g.queue.turn }; count = g.count })
       (λ t j u e ne eu tu. let q = (h.each j u eu).queue.ticket t tu in let is : a ≡ t = cc e in omega arith)
       (omega arith)
       (λ n. refl)
@@ -512,7 +512,7 @@ module _ {B E : Type 0} (stands : B → List E) (who : E → ℕ) where
       let t : V = merged v w in let z : V = newcomer [] 0 in let vs1 : List V = set vs id t in let vs2 : List V = set vs1 other z in
       let at' : get_elem? vs other ≡ some w = sym (set_else vs id other t ne) ∙ there in
       let f = h.each id v at in let g = h.each other w at' in
-      let none_z : Fits who a b c log z = record { history = record { seen = (log, refl); olds = tt; exact = tt; }; queue = idle_queue _ _ log; count = uncounted (omega arith) } in
+      let none_z : Fits who a b c log z = record { history = record { seen = (log, refl); olds = tt; exact = tt }; queue = idle_queue _ _ log; count = uncounted (omega arith) } in
       let here : get_elem? vs1 id ≡ some t = set_here vs id t (inside vs id v at) in
       let here2 : get_elem? vs2 id ≡ some t = set_else vs1 other id z (λ e. ne (sym e)) ∙ here in record {
         each = each_set (λ j u. Fits who a b c log u) vs1 other z none_z (λ j u _. each_set (λ j u. Fits who a b c log u) vs id t (both_fits a b c n log v w num free f g) (λ j u _. h.each j u) j u);
@@ -555,7 +555,7 @@ module _ {B E : Type 0} (stands : B → List E) (who : E → ℕ) where
   count_holds : (a b c : ℕ) (log : List E) (homes : List (maybe.Option S)) (vs : List V) (id : ℕ) (v : V) → get_elem? vs id ≡ some v → v.turn ≡ Some log → H a b c log homes vs → H a b c log homes (set vs id (with_count c v))
   count_holds a b c log homes vs id v at turn h = let f = h.each id v at in let w : V = with_count c v in
       reseat a b c a b c log log homes homes vs id v w at h
-      record { history = f.history; queue = f.queue; count = record { known = le_refl c; counted = (λ l. (refl, turn)); } }
+      record { history = f.history; queue = f.queue; count = record { known = le_refl c; counted = (λ l. (refl, turn)) } }
       (λ j u ne e g. g)
       (λ t j u e ne eu tu. ne (h.apart j id u v t eu at tu e))
       (omega arith)

@@ -15,10 +15,9 @@ mod plays;
 mod rule;
 mod seat;
 mod steps;
-mod turn;
-
 #[cfg(test)]
 mod tests;
+mod turn;
 
 pub use plain::rule_in_words;
 pub use rule::Booked;

@@ -12,5 +12,4 @@ use crate::rule::Booked;
 /// seat has seen is a beginning of that list; and the places that seats keep are exact. The call does nothing.
 pub fn rule_in_words<B: Booked>()
     ensures { (s : State (Option B) (View B.Entry)) → Kept B.stands B.who s → IsOneHistory B.stands B.who s }
-{
-}
+{}

@@ -57,8 +57,19 @@ impl<B: Booked> TableRule<Option<B>, View<B::Entry>, Snapshot<B>> for TurnRule<B
 }
 
 // The table with its memory, what threads share of it, and a seat at it.
-pub(crate) type Board<B: Booked> = Table<Option<B>, View<B::Entry>, Snapshot<B>, TurnRule<B>, Global>;
+pub(crate) type Board<B: Booked> = Table<
+    Option<B>,
+    View<B::Entry>,
+    Snapshot<B>,
+    TurnRule<B>,
+    Global,
+>;
 
-pub(crate) type SharedBoard<B: Booked> = Shared<Option<B>, View<B::Entry>, Snapshot<B>, TurnRule<B>>;
+pub(crate) type SharedBoard<B: Booked> = Shared<
+    Option<B>,
+    View<B::Entry>,
+    Snapshot<B>,
+    TurnRule<B>,
+>;
 
 pub(crate) type Place<B: Booked> = atomic_table::Seat<Option<B>, View<B::Entry>>;

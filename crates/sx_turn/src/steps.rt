@@ -17,11 +17,7 @@ use std::thread;
 pub(crate) const SEATS: u64 = 64;
 
 // Draws a ticket.
-pub(crate) fn draw<B: Booked, R: Wait>(
-    rt: &R,
-    board: &SharedBoard<B>,
-    place: &mut Place<B>,
-) -> u64
+pub(crate) fn draw<B: Booked, R: Wait>(rt: &R, board: &SharedBoard<B>, place: &mut Place<B>) -> u64
     requires board { (place.old.table_id ≡ board.now.table_id) × IsBoard board.now.table_id }
     requires free { (place.old.me.0.ticket ≡ None) × (place.old.me.1 ≡ []) }
     ensures same { (place.new.table_id ≡ place.old.table_id) × (place.new.id ≡ place.old.id) }
