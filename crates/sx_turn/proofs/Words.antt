@@ -1,5 +1,5 @@
 -- The rule that is kept is the rule in plain words.
-use Rattle.std.proofs.Common.{◌≡◌, ◌≢◌, ⊎_elim, ℕ, ◌<◌, ◌≤◌, Bool, true, false, List, [], ◌∷◌, refl, ap, sym, ◌∙◌, arith, Option, Some, None}
+use Rattle.std.proofs.Common.{◌≡◌, ⊎_elim, ℕ, ◌<◌, ◌≤◌, Bool, true, false, List, [], ◌∷◌, ap, sym, ◌∙◌, arith, Option, Some}
 use mathlib.Core.Option.{some, none, some-injective}
 use mathlib.Core.Option as maybe
 use lib.ListN.{get_elem?}
@@ -9,12 +9,14 @@ use Rattle.sx_turn.specs.declared.rule.View.{View}
 use Rattle.sx_turn.specs.Places.{once_below}
 use Rattle.sx_turn.specs.Views.{owned_pairs}
 use Rattle.sx_turn.specs.Rules.{Kept, Holds, AtHome, IsOut, slot_content}
-use Rattle.sx_turn.specs.PlainRule.{IsOneHistory, HasView, TicketsDiffer, OneSeatIsInItsTurn, NumbersAreOwnedOnce, ValueIsInOnePlace, AllSeeBeginnings, PlacesAreExact}
-use Rattle.sx_turn.proofs.Views.{each_map}
+use Rattle.sx_turn.specs.PlainRule.{IsOneHistory, HasView, OneSeatIsInItsTurn, ValueIsInOnePlace}
+use Rattle.sx_turn.proofs.Lists.{each_map}
 
+-- a number below the count stands there once
 once_here : (n c : ℕ) → n < c → once_below n c ≡ 1
 once_here n c l = grind (arith, nat_tests)
 
+-- a number from the count on does not stand below it
 none_there : (n c : ℕ) → c ≤ n → once_below n c ≡ 0
 none_there n c l = grind (arith, nat_tests)
 
@@ -25,6 +27,7 @@ module _ {B E : Type 0} (stands : B → List E) (who : E → ℕ) where
   abbrev Slots : Type 0
   Slots = List (maybe.Option (Option B))
 
+  -- at most one seat is in its turn
   one_turn : (a b c : ℕ) (log : List E) (homes : Slots) (vs : List V) → Holds stands who a b c log homes vs → OneSeatIsInItsTurn b c vs
   one_turn a b c log homes vs h = (
     (λ j v g at e. ((h.each j v at).queue.turn g e).0),
@@ -33,7 +36,7 @@ module _ {B E : Type 0} (stands : B → List E) (who : E → ℕ) where
     (λ j v at. (h.each j v at).count.known),
   )
 
-  -- the value is where it is at home or out
+  -- the value is in one place
   one_value : (a b c : ℕ) (log : List E) (homes : Slots) (vs : List V) → Holds stands who a b c log homes vs → ValueIsInOnePlace stands log homes vs
   one_value a b c log homes vs h = (
     (λ none_in. ⊎_elim (λ (home : AtHome stands who log homes vs). (home.0, home.1, home.2)) (λ (out : IsOut stands who log homes vs). absurd (cc (none_in out.0 out.1 out.2, out.3))) h.value),
@@ -51,6 +54,7 @@ module _ {B E : Type 0} (stands : B → List E) (who : E → ℕ) where
         out.4 ∙ content out.1.closed v.closed (ap (λ (z : V). z.closed) same))
         h.value
 
+  -- the rule that is kept is the rule in plain words
   pub in_words : (s : State (Option B) V) → Kept stands who s → IsOneHistory stands who s
   in_words s k = let h = k.5 in record {
     tickets = k.0;

@@ -1,4 +1,4 @@
-use Rattle.std.proofs.Common.{rules, ◌≡◌, ◌∷◌, ap, ◌∙◌, sym, refl, Some, None}
+use Rattle.std.proofs.Common.{rules, ◌∷◌, ap, ◌∙◌, sym, Some}
 use Rattle.atomic_table.specs.Table.{rest}
 use Rattle.sx_turn.proofs.steps.take_value.Goals as goal
 
