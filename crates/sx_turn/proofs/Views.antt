@@ -18,7 +18,6 @@ ticket_is None n = inr (λ e. absurd (cc e))
 ticket_is (Some k) n = dite (ℕ_discrete k n) (λ e. inl (ap (λ (z : ℕ). Some z) e)) (λ ne. inr (λ e. ne (cc e)))
 
 module _ {E : Type 0} where
-
   -- a view with no ticket fits any queue
   pub idle_queue : (a b : ℕ) (log : List E) → FitsQueue a b log None None
   idle_queue a b log = record { ticket = (λ t e. absurd (cc e)); turn = (λ h e. absurd (cc e)) }
@@ -66,7 +65,6 @@ module _ {E : Type 0} where
   count_numbered v n num = let l : owned_count v ≡ suc (length v.ended) = ap (λ (o : Option ℕ). length (pairs_with o v.mine v.ended)) num in omega arith
 
 module _ {E : Type 0} (who : E → ℕ) where
-
   -- a view that waits fits when the turn of another ends with the list as it was
   pub others_stay : (a b c : ℕ) (log : List E) (u : View E) → u.turn ≡ None → u.ticket ≢ Some b → Fits who a b c log u → Fits who a (b + 1) c log u
   others_stay a b c log u idle apart f = record {
