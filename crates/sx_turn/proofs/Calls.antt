@@ -1,11 +1,12 @@
 -- What the steps of one call tell together.
-use Rattle.std.proofs.Common.{◌≡◌, inl, ℕ, Bool, if◌then◌else◌, eq-eqb, ◌<◌, ◌≤◌, true, false, List, [], ◌∷◌, ◌++◌, length, refl, ap, sym, ◌∙◌, subst, arith, Option, Some, None}
+use Rattle.std.proofs.Common.{◌≡◌, inl, ℕ, ◌<◌, ◌≤◌, true, false, List, [], ◌∷◌, refl, ap, sym, ◌∙◌, subst, arith, Option, Some, None}
 use mathlib.Core.List.{IsPrefix}
 use Rattle.atomic_table.specs.Table.{Me, rest}
 use Rattle.sx_turn.specs.declared.rule.View.{View}
-use Rattle.sx_turn.specs.Places.{Each, once_below, places_grown}
+use Rattle.sx_turn.specs.Places.{Each, once_below}
 use Rattle.sx_turn.specs.Views.{times_owned, owned_count, with_ticket, in_turn, with_count, with_number, newcomer, after_next, after_turn, with_closed, enrolled_view}
 use Rattle.sx_turn.specs.Moves.{TurnBegins, MayEnd, TurnEnds, TakenOut, IsClosed, StillOut, CallersCounted, CountedInTurn, NumberDrawn}
+use Rattle.sx_turn.proofs.Places.{grown_same}
 
 module _ {B E : Type 0} (stands : B → List E) (who : E → ℕ) where
   abbrev M : Type 0
@@ -13,9 +14,9 @@ module _ {B E : Type 0} (stands : B → List E) (who : E → ℕ) where
 
   -- the moves of a count: a ticket was drawn, the turn began, the numbers were counted
   pub count_call : (m a b c : M) (t n : ℕ) → a ≡ (with_ticket t m.0, []) → TurnBegins stands who a b → CallersCounted who b n c → CountedInTurn stands who m n c
-  count_call m a b c t n drawn beg CountTells = let y : B = beg.0 in
+  count_call m a b c t n drawn beg counted = let y : B = beg.0 in
       let e : b ≡ (in_turn (stands y) (with_ticket t m.0), (0, Some y) ∷ []) = beg.1 ∙ ap (λ (z : M). let r : M = (in_turn (stands y) z.0, (0, Some y) ∷ []) in r) drawn in
-      let k = subst (λ (z : M). CallersCounted who z n c) e CountTells (stands y) refl in
+      let k = subst (λ (z : M). CallersCounted who z n c) e counted (stands y) refl in
       (y, t, k.0, subst (λ (z : M). IsPrefix z.0.seen (stands y)) drawn beg.2.0, k.1, k.2, k.3, k.4, k.5, k.6)
 
   -- a new view that has counted is in its turn without a number
@@ -33,10 +34,6 @@ module _ {B E : Type 0} (stands : B → List E) (who : E → ℕ) where
   pub count_may_end : (m c : M) (n : ℕ) → CountedInTurn stands who m n c → MayEnd stands who c
   count_may_end m c n k = (k.0, stands k.0, ap (λ (z : M). z.1) k.2, ap (λ (z : M). z.0.turn) k.2, ap (λ (z : M). z.0.closed) k.2, inl refl)
 
-  -- with the same list at the end of a turn the places stay
-  grown_same : (mine : List ℕ) (h : List E) → places_grown (Some h) mine h ≡ mine
-  grown_same mine h = ap (λ (t : Bool). if t then mine else mine ++ length h ∷ []) (eq-eqb (length h) (length h) refl)
-
   -- the moves of a number drawn: counted, drawn, and the turn ended
   pub enrol_call : (m c d e : M) (n r : ℕ) → m ≡ (newcomer m.0.seen m.0.known, []) → CountedInTurn stands who m n c → d ≡ (with_number r c.0, c.1) → r ≡ n → n < 64 → TurnEnds stands d e → NumberDrawn who m.0 n e
   enrol_call m c d e n r fresh k did same room left = let y : B = k.0 in
@@ -48,7 +45,7 @@ module _ {B E : Type 0} (stands : B → List E) (who : E → ℕ) where
         k.6,
         k.5,
         k.8,
-        (λ _. gone ∙ ap (λ (z : M). let q : M = (after_next (stands y) z.0, []) in q) is ∙ ap (λ (l : List ℕ). let q : M = (record (enrolled_view n (stands y)) { mine = l }, []) in q) (grown_same [] (stands y))),
+        (λ _. gone ∙ ap (λ (z : M). let q : M = (after_next (stands y) z.0, []) in q) is ∙ ap (λ (l : List ℕ). let q : M = (record (enrolled_view n (stands y)) { mine = l }, []) in q) (grown_same (Some (stands y)) [] (stands y) refl)),
         (λ l. absurd (omega arith)),
         k.4,
       )
@@ -64,7 +61,7 @@ module _ {B E : Type 0} (stands : B → List E) (who : E → ℕ) where
         k.5,
         k.8,
         (λ l. absurd (omega arith)),
-        (λ _. gone ∙ ap (λ (z : M). let q : M = (after_next (stands y) z.0, []) in q) is ∙ ap (λ (l : List ℕ). let q : M = (record (newcomer (stands y) n) { mine = l }, []) in q) (grown_same [] (stands y))),
+        (λ _. gone ∙ ap (λ (z : M). let q : M = (after_next (stands y) z.0, []) in q) is ∙ ap (λ (l : List ℕ). let q : M = (record (newcomer (stands y) n) { mine = l }, []) in q) (grown_same (Some (stands y)) [] (stands y) refl)),
         k.4,
       )
 
@@ -80,12 +77,12 @@ module _ {B E : Type 0} (stands : B → List E) (who : E → ℕ) where
   -- the moves of a close: counted, the value taken out, and the slot brought home empty
   pub close_call : (m c e d : M) (n owns : ℕ) (v : B) → CountedInTurn stands who m n c → owns ≡ owned_count m.0 → n ≤ owns → c.1 ≡ (0, Some v) ∷ rest c.1 → e ≡ (c.0, (0, None) ∷ rest c.1) → d ≡ (with_closed e.0, [])
       → TakenOut stands who m.0 v × IsClosed d
-  close_call m c e d n owns v k own all took left shut = let y : B = k.0 in
+  close_call m c e d n owns v k own all took left emptied = let y : B = k.0 in
       let hand : c.1 ≡ (0, Some y) ∷ [] = ap (λ (z : M). z.1) k.2 in
       let same : y ≡ v = some_same y v (ap in_hand (sym hand ∙ took)) in
       let least = k.7 in let count : n ≡ owned_count m.0 = omega arith in
       let r = k.9 (omega arith) in
-      let turn : d.0.turn ≡ Some (stands y) = ap (λ (z : M). z.0.turn) shut ∙ (ap (λ (z : M). z.0.turn) left ∙ ap (λ (z : M). z.0.turn) k.2) in (
+      let turn : d.0.turn ≡ Some (stands y) = ap (λ (z : M). z.0.turn) emptied ∙ (ap (λ (z : M). z.0.turn) left ∙ ap (λ (z : M). z.0.turn) k.2) in (
         (
           sym (ap stands same) ∙ sym r.0,
           (
@@ -95,7 +92,7 @@ module _ {B E : Type 0} (stands : B → List E) (who : E → ℕ) where
             subst (λ (z : ℕ). (i : ℕ) → times_owned i m.0 ≡ once_below i z) count r.3,
           ),
         ),
-        (ap (λ (z : M). z.0.closed) shut, (stands y, turn), ap (λ (z : M). z.1) shut),
+        (ap (λ (z : M). z.0.closed) emptied, (stands y, turn), ap (λ (z : M). z.1) emptied),
       )
 
   -- the moves of a refused close: counted, and the turn ended
@@ -105,5 +102,5 @@ module _ {B E : Type 0} (stands : B → List E) (who : E → ℕ) where
         out,
         k.6,
         k.4,
-        (stands y, gone ∙ (ap (λ (z : M). let q : M = (after_next (stands y) z.0, []) in q) k.2 ∙ ap (λ (l : List ℕ). let q : M = (record (after_turn (stands y) l m.0) { known = n; closed = false }, []) in q) (grown_same m.0.mine (stands y))), k.3),
+        (stands y, gone ∙ (ap (λ (z : M). let q : M = (after_next (stands y) z.0, []) in q) k.2 ∙ ap (λ (l : List ℕ). let q : M = (record (after_turn (stands y) l m.0) { known = n; closed = false }, []) in q) (grown_same (Some (stands y)) m.0.mine (stands y) refl)), k.3),
       )

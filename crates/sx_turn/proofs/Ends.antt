@@ -77,18 +77,19 @@ module _ {B E : Type 0} (stands : B → List E) (who : E → ℕ) where
   -- the rule holds after the slot has come home empty
   pub close_holds : (a b c : ℕ) (log : List E) (homes : List (maybe.Option S)) (vs : List V) (id : ℕ) (v : V) → get_elem? vs id ≡ some v → v.turn ≡ Some log → H a b c log homes vs → H a b c log (some None ∷ []) (set vs id (with_closed v))
   close_holds a b c log homes vs id v at turn h = let f = h.each id v at in let w : V = with_closed v in
-      reseat stands who a b c a b c log log homes (some None ∷ []) vs id v w at h
-      record { history = f.history; queue = f.queue; count = f.count }
-      (λ j u ne e g. g)
-      (λ t j u e ne eu tu. ne (h.apart j id u v t eu at tu e))
-      (omega arith)
-      (λ n. refl)
-      refl
-      h.small
-      h.bound
-      (whole_stays stands who log vs id v w at refl refl h.whole)
-      h.entries
-      (inr (id, w, set_here vs id w (inside vs id v at), turn, refl))
+      reseat stands who a b c a b c log log homes (some None ∷ []) vs id v w at h record {
+        fits = record { history = f.history; queue = f.queue; count = f.count };
+        others = (λ j u ne e g. g);
+        fresh = (λ t j u e ne eu tu. ne (h.apart j id u v t eu at tu e));
+        waiting = (omega arith);
+        numbers = (λ n. refl);
+        shared = refl;
+        small = h.small;
+        bound = h.bound;
+        whole = (whole_stays stands who log vs id v w at refl refl h.whole);
+        entries = h.entries;
+        value = (inr (id, w, set_here vs id w (inside vs id v at), turn, refl));
+      }
 
   -- close keeps the rule
   pub close_keeps : (slots id : ℕ) (me : Me S V) (log : List E) → me.1 ≡ (0, None) ∷ [] → me.0.turn ≡ Some log → me.0.closed ≡ false → Allows (Kept stands who) slots id me 0 (λ n. n) (CloseTells (step slots 0 0 0 none) me)

@@ -119,18 +119,19 @@ module _ {B E : Type 0} (stands : B → List E) (who : E → ℕ) where
   -- the rule holds after the numbers are counted in a turn
   pub count_holds : (a b c : ℕ) (log : List E) (homes : List (maybe.Option S)) (vs : List V) (id : ℕ) (v : V) → get_elem? vs id ≡ some v → v.turn ≡ Some log → H a b c log homes vs → H a b c log homes (set vs id (with_count c v))
   count_holds a b c log homes vs id v at turn h = let f = h.each id v at in let w : V = with_count c v in
-      reseat stands who a b c a b c log log homes homes vs id v w at h
-      record { history = f.history; queue = f.queue; count = record { known = le_refl c; counted = (λ l. (refl, turn)) } }
-      (λ j u ne e g. g)
-      (λ t j u e ne eu tu. ne (h.apart j id u v t eu at tu e))
-      (omega arith)
-      (λ n. refl)
-      refl
-      h.small
-      h.bound
-      (whole_stays stands who log vs id v w at refl refl h.whole)
-      h.entries
-      (value_stays stands who log homes vs id v w at refl refl h.value)
+      reseat stands who a b c a b c log log homes homes vs id v w at h record {
+        fits = record { history = f.history; queue = f.queue; count = record { known = le_refl c; counted = (λ l. (refl, turn)) } };
+        others = (λ j u ne e g. g);
+        fresh = (λ t j u e ne eu tu. ne (h.apart j id u v t eu at tu e));
+        waiting = (omega arith);
+        numbers = (λ n. refl);
+        shared = refl;
+        small = h.small;
+        bound = h.bound;
+        whole = (whole_stays stands who log vs id v w at refl refl h.whole);
+        entries = h.entries;
+        value = (value_stays stands who log homes vs id v w at refl refl h.value);
+      }
 
   -- a view that owns as many pairs as there are numbers owns each number, and has seen all
   pub all_seen : (a b c : ℕ) (log : List E) (homes : List (maybe.Option S)) (vs : List V) (id : ℕ) (v : V) → get_elem? vs id ≡ some v → H a b c log homes vs → c ≤ owned_count v
@@ -187,38 +188,39 @@ module _ {B E : Type 0} (stands : B → List E) (who : E → ℕ) where
       let Q : ℕ × List ℕ → Type 0 = λ p. (p.1 ≡ places who p.0 log) × (p.1 ≡ places who p.0 v.seen) in
       let was : owned_pairs v ≡ v.ended = ap (λ (o : Option ℕ). pairs_with o v.mine v.ended) num in
       let below : Each (λ e. who e < c) (v.seen ++ f.history.seen.0) = subst (Each (λ e. who e < c)) (sym f.history.seen.1) h.entries in
-      reseat stands who a b c a b (c + 1) log log homes homes vs id v w at h
-      record {
-        history = record {
-          seen = f.history.seen;
-          olds = f.history.olds;
-          exact = ((sym (places_none who c 1 log h.entries), sym (places_none who c 1 v.seen (each_first (λ e. who e < c) v.seen f.history.seen.0 below))), subst (Each Q) was f.history.exact);
+      reseat stands who a b c a b (c + 1) log log homes homes vs id v w at h record {
+        fits = record {
+          history = record {
+            seen = f.history.seen;
+            olds = f.history.olds;
+            exact = ((sym (places_none who c 1 log h.entries), sym (places_none who c 1 v.seen (each_first (λ e. who e < c) v.seen f.history.seen.0 below))), subst (Each Q) was f.history.exact);
+          };
+          queue = f.queue;
+          count = record {
+            known = le_refl (c + 1);
+            counted = (λ l. (refl, turn));
+          };
         };
-        queue = f.queue;
-        count = record {
-          known = le_refl (c + 1);
-          counted = (λ l. (refl, turn));
-        };
+        others = (λ j u ne e g. let i = idle j u ne e in record {
+          history = g.history;
+          queue = g.queue;
+          count = record {
+            known = (let k = g.count.known in omega arith);
+            counted = (λ l. let q = g.count.counted l in absurd (cc (q.1, i.0)));
+          };
+        });
+        fresh = (λ t j u e ne eu tu. ne (h.apart j id u v t eu at tu e));
+        waiting = (omega arith);
+        numbers = (λ n. let m = once_more n c in let l : times_owned n v ≡ times n v.ended = ap (times n) was in omega arith);
+        shared = (let l : owned_count v ≡ length v.ended = ap length was in omega arith);
+        small = h.small;
+        bound = (let k = h.bound in (omega arith, omega arith));
+        whole = (let o = h.whole in dite (ℕ_discrete o.0 id)
+            (λ is. let same : o.1 ≡ v = some-injective o.1 v (sym o.3 ∙ (ap (get_elem? vs) is ∙ at)) in absurd (cc (ap (λ (z : V). z.number) same, o.4, num)))
+            (λ ne. (o.0, o.1, o.2, set_else vs id o.0 w ne ∙ o.3, o.4, o.5)));
+        entries = (each_map _ _ (λ e l. omega arith) log h.entries);
+        value = (value_stays stands who log homes vs id v w at refl refl h.value);
       }
-      (λ j u ne e g. let i = idle j u ne e in record {
-        history = g.history;
-        queue = g.queue;
-        count = record {
-          known = (let k = g.count.known in omega arith);
-          counted = (λ l. let q = g.count.counted l in absurd (cc (q.1, i.0)));
-        };
-      })
-      (λ t j u e ne eu tu. ne (h.apart j id u v t eu at tu e))
-      (omega arith)
-      (λ n. let m = once_more n c in let l : times_owned n v ≡ times n v.ended = ap (times n) was in omega arith)
-      (let l : owned_count v ≡ length v.ended = ap length was in omega arith)
-      h.small
-      (let k = h.bound in (omega arith, omega arith))
-      (let o = h.whole in dite (ℕ_discrete o.0 id)
-      (λ is. let same : o.1 ≡ v = some-injective o.1 v (sym o.3 ∙ (ap (get_elem? vs) is ∙ at)) in absurd (cc (ap (λ (z : V). z.number) same, o.4, num)))
-      (λ ne. (o.0, o.1, o.2, set_else vs id o.0 w ne ∙ o.3, o.4, o.5)))
-      (each_map _ _ (λ e l. omega arith) log h.entries)
-      (value_stays stands who log homes vs id v w at refl refl h.value)
 
   -- enrol keeps the rule
   pub enrol_keeps : (slots id : ℕ) (me : Me S V) (log : List E) → me.0.turn ≡ Some log → me.0.number ≡ None → me.0.counted ≡ true → me.0.known < 64

@@ -34,25 +34,26 @@ module _ {B E : Type 0} (stands : B → List E) (who : E → ℕ) where
   pub draw_holds : (a b c : ℕ) (log : List E) (homes : List (maybe.Option S)) (vs : List V) (id : ℕ) (v : V) → get_elem? vs id ≡ some v → v.ticket ≡ None → a + 1 < 2 ^ 64 → H a b c log homes vs
       → H (a + 1) b c log homes (set vs id (with_ticket a v))
   draw_holds a b c log homes vs id v at free small h = let f = h.each id v at in let wait = h.waiting in let none_yet : ticket_count v ≡ 0 = ap one_if free in let w : V = with_ticket a v in
-      reseat stands who a b c (a + 1) b c log log homes homes vs id v w at h
-      record {
-        history = f.history;
-        queue = record {
-          ticket = (λ t e. let is : a ≡ t = cc e in (omega arith, omega arith));
-          turn = (λ x e. absurd (cc (free, (f.queue.turn x e).0)));
+      reseat stands who a b c (a + 1) b c log log homes homes vs id v w at h record {
+        fits = record {
+          history = f.history;
+          queue = record {
+            ticket = (λ t e. let is : a ≡ t = cc e in (omega arith, omega arith));
+            turn = (λ x e. absurd (cc (free, (f.queue.turn x e).0)));
+          };
+          count = f.count;
         };
-        count = f.count;
+        others = (λ j u ne e g. record { history = g.history; queue = record { ticket = (λ t e. let q = g.queue.ticket t e in (q.0, omega arith)); turn = g.queue.turn }; count = g.count });
+        fresh = (λ t j u e ne eu tu. let q = (h.each j u eu).queue.ticket t tu in let is : a ≡ t = cc e in omega arith);
+        waiting = (omega arith);
+        numbers = (λ n. refl);
+        shared = refl;
+        small = small;
+        bound = h.bound;
+        whole = (whole_stays stands who log vs id v w at refl refl h.whole);
+        entries = h.entries;
+        value = (value_stays stands who log homes vs id v w at refl refl h.value);
       }
-      (λ j u ne e g. record { history = g.history; queue = record { ticket = (λ t e. let q = g.queue.ticket t e in (q.0, omega arith)); turn = g.queue.turn }; count = g.count })
-      (λ t j u e ne eu tu. let q = (h.each j u eu).queue.ticket t tu in let is : a ≡ t = cc e in omega arith)
-      (omega arith)
-      (λ n. refl)
-      refl
-      small
-      h.bound
-      (whole_stays stands who log vs id v w at refl refl h.whole)
-      h.entries
-      (value_stays stands who log homes vs id v w at refl refl h.value)
 
   -- draw keeps the rule, whether the ticket was drawn or the word had changed
   pub draw_keeps : (slots id : ℕ) (me : Me S V) (old new : ℕ) → me.0.ticket ≡ None → new ≡ old + 1 → new < 2 ^ 64 → Allows (Kept stands who) slots id me 0 (λ n. either (eqb n old) new n) (DrawTells (step slots 0 old new none) me)
@@ -79,28 +80,29 @@ module _ {B E : Type 0} (stands : B → List E) (who : E → ℕ) where
   pub look_holds : (a b c : ℕ) (log : List E) (homes : List (maybe.Option S)) (vs : List V) (id : ℕ) (v : V) → get_elem? vs id ≡ some v → v.ticket ≡ Some b → H a b c log homes vs
       → AtHome stands who log homes vs → H a b c log (none ∷ []) (set vs id (in_turn log v))
   look_holds a b c log homes vs id v at served h home = let f = h.each id v at in let w : V = in_turn log v in
-      reseat stands who a b c a b c log log homes (none ∷ []) vs id v w at h
-      record {
-        history = f.history;
-        queue = record {
-          ticket = f.queue.ticket;
-          turn = (λ x e. (served, cc e));
+      reseat stands who a b c a b c log log homes (none ∷ []) vs id v w at h record {
+        fits = record {
+          history = f.history;
+          queue = record {
+            ticket = f.queue.ticket;
+            turn = (λ x e. (served, cc e));
+          };
+          count = record {
+            known = f.count.known;
+            counted = (λ l. ((f.count.counted l).0, refl));
+          };
         };
-        count = record {
-          known = f.count.known;
-          counted = (λ l. ((f.count.counted l).0, refl));
-        };
+        others = (λ j u ne e g. g);
+        fresh = (λ t j u e ne eu tu. ne (h.apart j id u v t eu at tu e));
+        waiting = (omega arith);
+        numbers = (λ n. refl);
+        shared = refl;
+        small = h.small;
+        bound = h.bound;
+        whole = (whole_stays stands who log vs id v w at refl refl h.whole);
+        entries = h.entries;
+        value = (inr (id, w, set_here vs id w (inside vs id v at), refl, refl));
       }
-      (λ j u ne e g. g)
-      (λ t j u e ne eu tu. ne (h.apart j id u v t eu at tu e))
-      (omega arith)
-      (λ n. refl)
-      refl
-      h.small
-      h.bound
-      (whole_stays stands who log vs id v w at refl refl h.whole)
-      h.entries
-      (inr (id, w, set_here vs id w (inside vs id v at), refl, refl))
 
   -- look keeps the rule, whether the turn begins or not
   pub look_keeps : (slots id : ℕ) (me : Me S V) → me.0.turn ≡ None → Allows (Kept stands who) slots id me 1 (λ n. n) (LookTells stands who (step slots 1 0 0 none) me)
@@ -136,28 +138,29 @@ module _ {B E : Type 0} (stands : B → List E) (who : E → ℕ) where
       → H a (b + 1) c log (some (Some y) ∷ []) (set vs id (after_turn log v.mine v))
   next_same_holds a b c log homes vs id v y at turn is h = let f = h.each id v at in let served : v.ticket ≡ Some b = (f.queue.turn log turn).0 in let w : V = after_turn log v.mine v in
       let idle = others_idle stands who a b c log homes vs id v at served h in let one : ticket_count v ≡ 1 = ap one_if served in
-      reseat stands who a b c a (b + 1) c log log homes (some (Some y) ∷ []) vs id v w at h
-      record {
-        history = record {
-          seen = prefix_self log;
-          olds = f.history.olds;
-          exact = each_map _ _ (λ p q. (q.0, q.0)) (owned_pairs v) f.history.exact;
+      reseat stands who a b c a (b + 1) c log log homes (some (Some y) ∷ []) vs id v w at h record {
+        fits = record {
+          history = record {
+            seen = prefix_self log;
+            olds = f.history.olds;
+            exact = each_map _ _ (λ p q. (q.0, q.0)) (owned_pairs v) f.history.exact;
+          };
+          queue = idle_queue _ _ log;
+          count = uncounted f.count.known;
         };
-        queue = idle_queue _ _ log;
-        count = uncounted f.count.known;
+        others = (λ j u ne e g. let i = idle j u ne e in others_stay who a b c log u i.0 i.1 g);
+        fresh = (λ t j u e. absurd (cc e));
+        waiting = (omega arith);
+        numbers = (λ n. refl);
+        shared = refl;
+        small = h.small;
+        bound = h.bound;
+        whole = (let o = h.whole in dite (ℕ_discrete o.0 id)
+            (λ here. let same : o.1 ≡ v = some-injective o.1 v (sym o.3 ∙ (ap (get_elem? vs) here ∙ at)) in (id, w, o.2, set_here vs id w (inside vs id v at), ap (λ (z : V). z.number) (sym same) ∙ o.4, refl))
+            (λ ne. (o.0, o.1, o.2, set_else vs id o.0 w ne ∙ o.3, o.4, o.5)));
+        entries = h.entries;
+        value = (inl (y, refl, is, each_set (λ j u. u.turn ≡ None) vs id w refl (λ j u ne e. (idle j u ne e).0)));
       }
-      (λ j u ne e g. let i = idle j u ne e in others_stay who a b c log u i.0 i.1 g)
-      (λ t j u e. absurd (cc e))
-      (omega arith)
-      (λ n. refl)
-      refl
-      h.small
-      h.bound
-      (let o = h.whole in dite (ℕ_discrete o.0 id)
-      (λ here. let same : o.1 ≡ v = some-injective o.1 v (sym o.3 ∙ (ap (get_elem? vs) here ∙ at)) in (id, w, o.2, set_here vs id w (inside vs id v at), ap (λ (z : V). z.number) (sym same) ∙ o.4, refl))
-      (λ ne. (o.0, o.1, o.2, set_else vs id o.0 w ne ∙ o.3, o.4, o.5)))
-      h.entries
-      (inl (y, refl, is, each_set (λ j u. u.turn ≡ None) vs id w refl (λ j u ne e. (idle j u ne e).0)))
 
   -- the rule holds after a turn that ends with one entry more
   pub next_more_holds : (a b c : ℕ) (log : List E) (homes : List (maybe.Option S)) (vs : List V) (id : ℕ) (v : V) (y : B) (e : E) → get_elem? vs id ≡ some v → v.turn ≡ Some log → stands y ≡ log ++ e ∷ [] → v.number ≡ Some (who e)
@@ -169,26 +172,27 @@ module _ {B E : Type 0} (stands : B → List E) (who : E → ℕ) where
       let all = h.numbers (who e) in let most = once_one (who e) c in let share = total_at (times_owned (who e)) vs id v at in
       let below : who e < c = once_in (who e) c (omega arith) in
       let mine_once : times_owned (who e) w ≡ times_owned (who e) v = ap (λ (o : Option ℕ). times (who e) (pairs_with o w.mine v.ended)) num ∙ ap (λ (o : Option ℕ). times (who e) (pairs_with o v.mine v.ended)) (sym num) in
-      reseat stands who a b c a (b + 1) c log log' homes (some (Some y) ∷ []) vs id v w at h
-      record {
-        history = record {
-          seen = prefix_self log';
-          olds = each_map _ _ (λ o p. prefix_more o log (e ∷ []) p) v.olds f.history.olds;
-          exact = pairs_own who log e v num (omega arith) f.history.exact;
+      reseat stands who a b c a (b + 1) c log log' homes (some (Some y) ∷ []) vs id v w at h record {
+        fits = record {
+          history = record {
+            seen = prefix_self log';
+            olds = each_map _ _ (λ o p. prefix_more o log (e ∷ []) p) v.olds f.history.olds;
+            exact = pairs_own who log e v num (omega arith) f.history.exact;
+          };
+          queue = idle_queue _ _ log';
+          count = uncounted f.count.known;
         };
-        queue = idle_queue _ _ log';
-        count = uncounted f.count.known;
+        others = (λ j u ne q g. let i = idle j u ne q in let two = total_two (times_owned (who e)) vs id j v u (λ z. ne (sym z)) at q in others_grown who a b c log e u i.0 i.1 (omega arith) g);
+        fresh = (λ t j u q. absurd (cc q));
+        waiting = (omega arith);
+        numbers = (λ n. ap (λ (k : ℕ). once_below n c + k) (ap (λ (o : Option ℕ). times n (pairs_with o v.mine v.ended)) num ∙ ap (λ (o : Option ℕ). times n (pairs_with o w.mine v.ended)) (sym num)));
+        shared = (ap (λ (k : ℕ). c + k) (ap (λ (o : Option ℕ). length (pairs_with o v.mine v.ended)) num ∙ ap (λ (o : Option ℕ). length (pairs_with o w.mine v.ended)) (sym num)));
+        small = h.small;
+        bound = h.bound;
+        whole = (id, w, who e, set_here vs id w (inside vs id v at), num, refl);
+        entries = (each_snoc _ log e h.entries below);
+        value = (inl (y, refl, is, each_set (λ j u. u.turn ≡ None) vs id w refl (λ j u ne q. (idle j u ne q).0)));
       }
-      (λ j u ne q g. let i = idle j u ne q in let two = total_two (times_owned (who e)) vs id j v u (λ z. ne (sym z)) at q in others_grown who a b c log e u i.0 i.1 (omega arith) g)
-      (λ t j u q. absurd (cc q))
-      (omega arith)
-      (λ n. ap (λ (k : ℕ). once_below n c + k) (ap (λ (o : Option ℕ). times n (pairs_with o v.mine v.ended)) num ∙ ap (λ (o : Option ℕ). times n (pairs_with o w.mine v.ended)) (sym num)))
-      (ap (λ (k : ℕ). c + k) (ap (λ (o : Option ℕ). length (pairs_with o v.mine v.ended)) num ∙ ap (λ (o : Option ℕ). length (pairs_with o w.mine v.ended)) (sym num)))
-      h.small
-      h.bound
-      (id, w, who e, set_here vs id w (inside vs id v at), num, refl)
-      (each_snoc _ log e h.entries below)
-      (inl (y, refl, is, each_set (λ j u. u.turn ≡ None) vs id w refl (λ j u ne q. (idle j u ne q).0)))
 
   -- next keeps the rule
   pub next_keeps : (slots id : ℕ) (me : Me S V) (y : B) (log : List E) → me.1 ≡ (0, Some y) ∷ [] → me.0.turn ≡ Some log → me.0.closed ≡ false → MayEndWith stands who log me.0 y

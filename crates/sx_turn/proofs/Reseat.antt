@@ -25,32 +25,41 @@ module _ {B E : Type 0} (stands : B → List E) (who : E → ℕ) where
   abbrev H : ℕ → ℕ → ℕ → List E → List (maybe.Option S) → List V → Type 0
   H = Holds stands who
 
-  -- the rule holds after one view is set, where what changes fits
+  -- What a move owes that sets the view at id from v to w, where the words are then a', b' and c', the list log' and the slot homes'
+  pub record Resets (a b c a' b' c' : ℕ) (log log' : List E) (homes' : List (maybe.Option S)) (vs : List V) (id : ℕ) (v w : V) : Type 0 where
+    -- the view fits, and those of others still do
+    pub fits : Fits who a' b' c' log' w
+    pub others : (j : ℕ) (u : V) → j ≢ id → get_elem? vs j ≡ some u → Fits who a b c log u → Fits who a' b' c' log' u
+    -- its ticket is nobody else's
+    pub fresh : (t j : ℕ) (u : V) → w.ticket ≡ Some t → j ≢ id → get_elem? vs j ≡ some u → u.ticket ≢ Some t
+    -- the words have changed by as much as the view's ticket and its numbers
+    pub waiting : (a' + ticket_count v) + b ≡ (a + ticket_count w) + b'
+    pub numbers : (n : ℕ) → once_below n c' + times_owned n v ≡ once_below n c + times_owned n w
+    pub shared : c' + owned_count v ≡ c + owned_count w
+    pub small : a' < 2 ^ 64
+    pub bound : (1 ≤ c') × (c' ≤ 64)
+    -- the list has been seen whole, and its entries have numbers
+    pub whole : (k : ℕ) × (x : V) × (n : ℕ) × (get_elem? (set vs id w) k ≡ some x) × (x.number ≡ Some n) × (x.seen ≡ log')
+    pub entries : Each (λ e. who e < c') log'
+    -- where the value is
+    pub value : AtHome stands who log' homes' (set vs id w) ⊎ IsOut stands who log' homes' (set vs id w)
+
+  -- the rule holds after one view is set
   pub reseat : (a b c a' b' c' : ℕ) (log log' : List E) (homes homes' : List (maybe.Option S)) (vs : List V) (id : ℕ) (v w : V) → get_elem? vs id ≡ some v
       → H a b c log homes vs
-      → Fits who a' b' c' log' w
-      → ((j : ℕ) (u : V) → j ≢ id → get_elem? vs j ≡ some u → Fits who a b c log u → Fits who a' b' c' log' u)
-      → ((t : ℕ) (j : ℕ) (u : V) → w.ticket ≡ Some t → j ≢ id → get_elem? vs j ≡ some u → u.ticket ≢ Some t)
-      → (a' + ticket_count v) + b ≡ (a + ticket_count w) + b'
-      → ((n : ℕ) → once_below n c' + times_owned n v ≡ once_below n c + times_owned n w)
-      → c' + owned_count v ≡ c + owned_count w
-      → a' < 2 ^ 64
-      → (1 ≤ c') × (c' ≤ 64)
-      → ((k : ℕ) × (x : V) × (n : ℕ) × (get_elem? (set vs id w) k ≡ some x) × (x.number ≡ Some n) × (x.seen ≡ log'))
-      → Each (λ e. who e < c') log'
-      → AtHome stands who log' homes' (set vs id w) ⊎ IsOut stands who log' homes' (set vs id w)
+      → Resets a b c a' b' c' log log' homes' vs id v w
       → H a' b' c' log' homes' (set vs id w)
-  reseat a b c a' b' c' log log' homes homes' vs id v w at h mine others fresh wait own size small bound whole entries value = record {
-    shared = (let t = total_set owned_count vs id v w at in let k = h.shared in omega arith);
-    small = small;
-    each = each_set (λ j u. Fits who a' b' c' log' u) vs id w mine (λ j u ne e. others j u ne e (h.each j u e));
-    apart = apart_set vs id w h.apart fresh;
-    waiting = (let t = total_set ticket_count vs id v w at in let n = h.waiting in omega arith);
-    numbers = (λ n. let t = total_set (times_owned n) vs id v w at in let k = h.numbers n in let o = own n in omega arith);
-    bound = bound;
-    whole = whole;
-    entries = entries;
-    value = value;
+  reseat a b c a' b' c' log log' homes homes' vs id v w at h r = record {
+    each = each_set (λ j u. Fits who a' b' c' log' u) vs id w r.fits (λ j u ne e. r.others j u ne e (h.each j u e));
+    apart = apart_set vs id w h.apart r.fresh;
+    waiting = (let t = total_set ticket_count vs id v w at in let n = h.waiting in let s = r.waiting in omega arith);
+    small = r.small;
+    numbers = (λ n. let t = total_set (times_owned n) vs id v w at in let k = h.numbers n in let o = r.numbers n in omega arith);
+    shared = (let t = total_set owned_count vs id v w at in let k = h.shared in let s = r.shared in omega arith);
+    bound = r.bound;
+    whole = r.whole;
+    entries = r.entries;
+    value = r.value;
   }
 
   -- a numbered view has still seen the whole list, where the set view kept its number and what it saw

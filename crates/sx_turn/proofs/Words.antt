@@ -1,5 +1,5 @@
 -- The rule that is kept is the rule in plain words.
-use Rattle.std.proofs.Common.{◌≡◌, ⊎_elim, ℕ, ◌<◌, ◌≤◌, Bool, true, false, List, [], ◌∷◌, ap, sym, ◌∙◌, arith, Option, Some}
+use Rattle.std.proofs.Common.{◌≡◌, ⊎_elim, ℕ, ◌≤◌, Bool, true, false, List, [], ◌∷◌, ap, sym, ◌∙◌, arith, Option, Some}
 use mathlib.Core.Option.{some, none, some-injective}
 use mathlib.Core.Option as maybe
 use lib.ListN.{get_elem?}
@@ -11,10 +11,7 @@ use Rattle.sx_turn.specs.Views.{owned_pairs}
 use Rattle.sx_turn.specs.Rules.{Kept, Holds, AtHome, IsOut, slot_content}
 use Rattle.sx_turn.specs.PlainRule.{IsOneHistory, HasView, OneSeatIsInItsTurn, ValueIsInOnePlace}
 use Rattle.sx_turn.proofs.Lists.{each_map}
-
--- a number below the count stands there once
-once_here : (n c : ℕ) → n < c → once_below n c ≡ 1
-once_here n c l = grind (arith, nat_tests)
+use Rattle.sx_turn.proofs.Places.{once_here}
 
 -- a number from the count on does not stand below it
 none_there : (n c : ℕ) → c ≤ n → once_below n c ≡ 0
