@@ -12,9 +12,11 @@ use Rattle.sx_turn.specs.Views.{owned_count, with_ticket, in_turn, with_count, w
 abbrev pub IsBoard : TableId → Type 0
 IsBoard table = (table.words ≡ 3) × (table.slots ≡ 1)
 
+-- a seat's view, and the slots in its hands
 abbrev SeatMe : Type 0 → Type 0 → Type 0
 SeatMe B E = Me (Option B) (View E)
 
+-- a step on the table
 abbrev BoardStep : Type 0 → Type 0
 BoardStep B = Step (Option B)
 
@@ -29,7 +31,8 @@ module _ {B E : Type 0} where
 
   -- look: where the seat's ticket is served, the value comes to it and its turn begins
   abbrev pub LookTells : (B → List E) → (E → ℕ) → BoardStep B → SeatMe B E → ℕ → SeatMe B E → Type 0
-  LookTells stands who st m n m' = (m.0.ticket ≡ Some n → (y : B) × (m' ≡ (in_turn (stands y) m.0, (0, Some y) ∷ m.1)) × Extends who m.0 (stands y)) × (m.0.ticket ≢ Some n → m' ≡ m)
+  LookTells stands who st m n m' = (m.0.ticket ≡ Some n → (y : B) × (m' ≡ (in_turn (stands y) m.0, (0, Some y) ∷ m.1)) × Extends who m.0 (stands y))
+      × (m.0.ticket ≢ Some n → m' ≡ m)
 
   -- the turn has begun
   abbrev pub TurnBegins : (B → List E) → (E → ℕ) → SeatMe B E → SeatMe B E → Type 0
@@ -41,11 +44,13 @@ module _ {B E : Type 0} where
 
   -- the seat is in its turn, and has a value in its hands with which the turn may end
   abbrev pub MayEnd : (B → List E) → (E → ℕ) → SeatMe B E → Type 0
-  MayEnd stands who m = (y : B) × (h : List E) × (m.1 ≡ (0, Some y) ∷ []) × (m.0.turn ≡ Some h) × (m.0.closed ≡ false) × MayEndWith stands who h m.0 y
+  MayEnd stands who m = (y : B) × (h : List E) × (m.1 ≡ (0, Some y) ∷ []) × (m.0.turn ≡ Some h) × (m.0.closed ≡ false)
+      × MayEndWith stands who h m.0 y
 
   -- the seat is in its turn with the slot empty, and y may go back into it
   abbrev pub MayPutBack : (B → List E) → (E → ℕ) → SeatMe B E → B → Type 0
-  MayPutBack stands who m y = (h : List E) × (m.1 ≡ (0, None) ∷ []) × (m.0.turn ≡ Some h) × (m.0.closed ≡ false) × MayEndWith stands who h m.0 y
+  MayPutBack stands who m y = (h : List E) × (m.1 ≡ (0, None) ∷ []) × (m.0.turn ≡ Some h) × (m.0.closed ≡ false)
+      × MayEndWith stands who h m.0 y
 
   -- the value goes home, and the turn ends
   abbrev pub TurnEnds : (B → List E) → SeatMe B E → SeatMe B E → Type 0
@@ -55,18 +60,21 @@ module _ {B E : Type 0} where
   abbrev pub NextTells : (B → List E) → BoardStep B → SeatMe B E → ℕ → SeatMe B E → Type 0
   NextTells stands st m n m' = TurnEnds stands m m'
 
-  -- count: in its turn the seat learns how many numbers were given out
+  -- in its turn the seat learns how many numbers were given out
   abbrev pub CallersCounted : (E → ℕ) → SeatMe B E → ℕ → SeatMe B E → Type 0
   CallersCounted who m n m' = (h : List E) → m.0.turn ≡ Some h
-      → (m' ≡ (with_count n m.0, m.1)) × (m.0.known ≤ n) × (1 ≤ n) × (n ≤ 64) × (owned_count m.0 ≤ n) × Each (λ e. who e < n) h × (n ≤ owned_count m.0 → SeesAll who n m.0 h)
+      → (m' ≡ (with_count n m.0, m.1)) × (m.0.known ≤ n) × (1 ≤ n) × (n ≤ 64) × (owned_count m.0 ≤ n) × Each (λ e. who e < n) h
+      × (n ≤ owned_count m.0 → SeesAll who n m.0 h)
 
+  -- count: the callers are counted
   abbrev pub CountTells : (E → ℕ) → BoardStep B → SeatMe B E → ℕ → SeatMe B E → Type 0
   CountTells who st m n m' = CallersCounted who m n m'
 
   -- the turn has begun, and the callers are counted in it
   abbrev pub CountedInTurn : (B → List E) → (E → ℕ) → SeatMe B E → ℕ → SeatMe B E → Type 0
-  CountedInTurn stands who m n m' = (y : B) × (t : ℕ) × (m' ≡ (with_count n (in_turn (stands y) (with_ticket t m.0)), (0, Some y) ∷ [])) × IsPrefix m.0.seen (stands y)
-      × (m.0.known ≤ n) × (1 ≤ n) × (n ≤ 64) × (owned_count m.0 ≤ n) × Each (λ e. who e < n) (stands y) × (n ≤ owned_count m.0 → SeesAll who n m.0 (stands y))
+  CountedInTurn stands who m n m' = (y : B) × (t : ℕ) × (m' ≡ (with_count n (in_turn (stands y) (with_ticket t m.0)), (0, Some y) ∷ []))
+      × IsPrefix m.0.seen (stands y) × (m.0.known ≤ n) × (1 ≤ n) × (n ≤ 64) × (owned_count m.0 ≤ n) × Each (λ e. who e < n) (stands y)
+      × (n ≤ owned_count m.0 → SeesAll who n m.0 (stands y))
 
   -- enrol: the seat has the number that was next
   abbrev pub EnrolTells : BoardStep B → SeatMe B E → ℕ → SeatMe B E → Type 0
@@ -95,4 +103,5 @@ module _ {B E : Type 0} where
 
   -- more numbers were given out than the seat owns, and the seat has seen the list so far
   abbrev pub StillOut : ℕ → SeatMe B E → ℕ → SeatMe B E → Type 0
-  StillOut owns m n m' = (owns < n) × (n ≤ 64) × (m.0.known ≤ n) × ((h : List E) × (m' ≡ (record (after_turn h m.0.mine m.0) { known = n; closed = false }, [])) × IsPrefix m.0.seen h)
+  StillOut owns m n m' = (owns < n) × (n ≤ 64) × (m.0.known ≤ n)
+      × ((h : List E) × (m' ≡ (record (after_turn h m.0.mine m.0) { known = n; closed = false }, [])) × IsPrefix m.0.seen h)

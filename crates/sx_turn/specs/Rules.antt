@@ -41,17 +41,20 @@ module _ {E : Type 0} where
 
   -- no two views have one ticket
   abbrev pub Apart : List (View E) → Type 0
-  Apart views = (i j : ℕ) (v w : View E) (t : ℕ) → get_elem? views i ≡ some v → get_elem? views j ≡ some w → v.ticket ≡ Some t → w.ticket ≡ Some t → i ≡ j
+  Apart views = (i j : ℕ) (v w : View E) (t : ℕ)
+      → get_elem? views i ≡ some v → get_elem? views j ≡ some w → v.ticket ≡ Some t → w.ticket ≡ Some t → i ≡ j
 
 module _ {B E : Type 0} (stands : B → List E) (who : E → ℕ) where
   -- the value lies in the slot, and nobody is in its turn
   abbrev pub AtHome : List E → List (maybe.Option (Option B)) → List (View E) → Type 0
-  AtHome log homes views = (y : B) × (homes ≡ some (Some y) ∷ []) × (stands y ≡ log) × ((j : ℕ) (v : View E) → get_elem? views j ≡ some v → v.turn ≡ None)
+  AtHome log homes views = (y : B) × (homes ≡ some (Some y) ∷ []) × (stands y ≡ log)
+      × ((j : ℕ) (v : View E) → get_elem? views j ≡ some v → v.turn ≡ None)
 
   -- the value is with a seat in its turn, or was taken out by it for good
   abbrev pub IsOut : List E → List (maybe.Option (Option B)) → List (View E) → Type 0
   IsOut log homes views = (k : ℕ) × (v : View E) × (get_elem? views k ≡ some v) × (v.turn ≡ Some log) × (homes ≡ slot_content v.closed ∷ [])
 
+  -- what holds across views, where the words, the list and the slot's content are these
   pub record Holds (tickets serving callers : ℕ) (log : List E) (homes : List (maybe.Option (Option B))) (views : List (View E)) : Type 0 where
     -- each view fits the words and the list
     pub each : (j : ℕ) (v : View E) → get_elem? views j ≡ some v → Fits who tickets serving callers log v
@@ -76,4 +79,5 @@ module _ {B E : Type 0} (stands : B → List E) (who : E → ℕ) where
 
   -- the rule: there are three words and one list for which all of that holds
   abbrev pub Kept : State (Option B) (View E) → Type 0
-  Kept s = (tickets serving callers : ℕ) × (log : List E) × (s.words ≡ tickets ∷ serving ∷ callers ∷ []) × Holds tickets serving callers log s.homes s.views
+  Kept s = (tickets serving callers : ℕ) × (log : List E) × (s.words ≡ tickets ∷ serving ∷ callers ∷ [])
+      × Holds tickets serving callers log s.homes s.views

@@ -4,6 +4,7 @@ use Rattle.atomic_table.specs.Table.{Me}
 pub use Rattle.atomic_table.specs.Seated.{TableId}
 use Rattle.sx_turn.specs.declared.rule.View.{View}
 use Rattle.sx_turn.specs.Places.{Each, places, times, once_below, places_grown, longer}
+use Rattle.sx_turn.specs.Views.{owned_pairs, owned_count}
 
 -- a seat: which turn it belongs to, its number, the list that it has seen, the places of its own entries there, the numbers and places of the seats that joined it,
 -- how many numbers it knows to have been given out, and, while it has the value, the list for which that stood when it was taken
@@ -77,7 +78,16 @@ module _ {E : Type 0} where
   abbrev pub after_join : SeatView E → SeatView E → SeatView E
   after_join s t = record s { seen = longer s.seen t.seen; known = max s.known t.known; ended = pairs_of t ++ s.ended }
 
--- a seat of the table that is idle, or whose value is with its caller
+-- what contracts see of a seat of this table, with this number and this view
+abbrev pub seat_view : {E : Type 0} → TableId → ℕ → View E → SeatView E
+seat_view table number v = record { turn = table; number = number; seen = v.seen; mine = v.mine; ended = v.ended; known = v.known; taken = v.turn }
+
+-- a seat that waits for nothing and has nothing in its hands, or whose caller has the value: then the slot is out with it and has this content
 abbrev pub IsIdleOrTaken : {S E : Type 0} → S → Me S (View E) → Type 0
 IsIdleOrTaken {S} {E} empty m = (m.0.counted ≡ false) × (m.0.closed ≡ false)
     × (((m.0.turn ≡ None) × (m.0.ticket ≡ None) × (m.1 ≡ [])) ⊎ ((h : List E) × (m.0.turn ≡ Some h) × (m.1 ≡ (0, empty) ∷ [])))
+
+-- a seat with this number that owns so many pairs: each number that it owns is below the count of numbers that it knows
+abbrev pub IsSeat : {S E : Type 0} → S → ℕ → ℕ → Me S (View E) → Type 0
+IsSeat empty number owns m = (m.0.number ≡ Some number) × IsIdleOrTaken empty m × (owns ≡ owned_count m.0) × (owns ≤ 64)
+    × Each (λ p. p.0 < m.0.known) (owned_pairs m.0)

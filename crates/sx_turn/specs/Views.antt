@@ -75,14 +75,19 @@ module _ {E : Type 0} where
   abbrev pub merged : View E → View E → View E
   merged v w = record v { seen = longer v.seen w.seen; known = max v.known w.known; olds = v.seen ∷ w.seen ∷ []; ended = owned_pairs w ++ v.ended }
 
+  -- each number that the view owns has exactly the places in the list that are kept for it
+  abbrev pub OwnsPlacesIn : (E → ℕ) → List E → View E → Type 0
+  OwnsPlacesIn who log v = Each (λ p. p.1 ≡ places who p.0 log) (owned_pairs v)
+
   -- the list begins with what the view has seen, and each number that the view owns has there the places that it kept
   abbrev pub Extends : (E → ℕ) → View E → List E → Type 0
-  Extends who v log = IsPrefix v.seen log × Each (λ p. p.1 ≡ places who p.0 log) (owned_pairs v)
+  Extends who v log = IsPrefix v.seen log × OwnsPlacesIn who log v
 
   -- the view owns all of the n numbers: then it has seen the whole list, and each entry has one of its numbers
   abbrev pub SeesAll : (E → ℕ) → ℕ → View E → List E → Type 0
-  SeesAll who n v h = (v.seen ≡ h) × Each (λ e. times_owned (who e) v ≡ 1) h × Each (λ p. p.1 ≡ places who p.0 v.seen) (owned_pairs v) × ((k : ℕ) → times_owned k v ≡ once_below k n)
+  SeesAll who n v h = (v.seen ≡ h) × Each (λ e. times_owned (who e) v ≡ 1) h × OwnsPlacesIn who v.seen v × ((k : ℕ) → times_owned k v ≡ once_below k n)
 
   -- what a view can tell of itself: old lists no longer than what it has seen begin it, its places are exact in it, and no number stands twice among its pairs
   abbrev pub IsSound : (E → ℕ) → View E → Type 0
-  IsSound who v = Each (λ o. length o ≤ length v.seen → IsPrefix o v.seen) v.olds × Each (λ p. p.1 ≡ places who p.0 v.seen) (owned_pairs v) × (owned_count v ≤ 64) × ((n : ℕ) → times_owned n v ≤ 1)
+  IsSound who v = Each (λ o. length o ≤ length v.seen → IsPrefix o v.seen) v.olds × OwnsPlacesIn who v.seen v × (owned_count v ≤ 64)
+      × ((n : ℕ) → times_owned n v ≤ 1)

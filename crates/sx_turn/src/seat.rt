@@ -17,20 +17,18 @@ pub struct Seat<B: Booked> {
 }
 
 impl<B: Booked> Model for Seat<B> {
-    ghost use Rattle.std.specs.Prelude.{◌≡◌, ◌≤◌, ◌<◌, Some, None};
-    ghost use Rattle.sx_turn.specs.Seats.{SeatView, IsIdleOrTaken};
-    ghost use Rattle.sx_turn.specs.Places.{Each};
-    ghost use Rattle.sx_turn.specs.Views.{owned_count, owned_pairs};
+    ghost use Rattle.std.specs.Prelude.{None};
+    ghost use Rattle.sx_turn.specs.Seats.{SeatView, seat_view, IsSeat};
 
     ghost Value = { SeatView B.Entry };
 
-    ghost view = { λ s. let v = s.place.me.0 in record { turn = s.place.table_id; number = s.number; seen = v.seen; mine = v.mine; ended = v.ended; known = v.known; taken = v.turn } };
+    ghost view = { λ s. seat_view s.place.table_id s.number s.place.me.0 };
 
-    ghost invariant = { λ s. (s.place.me.0.number ≡ Some s.number) × IsIdleOrTaken None s.place.me × (s.owns ≡ owned_count s.place.me.0) × (s.owns ≤ 64) × Each (λ p. p.0 < s.place.me.0.known) (owned_pairs s.place.me.0) };
+    ghost invariant = { λ s. IsSeat None s.number s.owns s.place.me };
 }
 
 impl<B: Booked> Seat<B> {
-    /// The seat's number, 0 to 63. No other seat of its turn has it.
+    /// The seat's number, by which its entries are known: 0 for the first seat, and what `Turn::enrol` drew for others.
     pub fn number(&self) -> u32
         ensures { result ≡ self.now.number }
     {

@@ -109,7 +109,8 @@ pub(crate) fn count_callers<B: Booked, R: Wait>(
     board.load::<Count>(place, 2)
 }
 
-// Gives a new seat a number in a turn of its own, unless all were given out. Answers how many were given out before.
+// Gives a new seat a number in a turn of its own, unless all were given out.
+// Answers how many were given out before.
 pub(crate) fn draw_number<B: Booked, R: Wait>(
     rt: &R,
     board: &SharedBoard<B>,
@@ -133,7 +134,8 @@ pub(crate) fn draw_number<B: Booked, R: Wait>(
 // Takes in another seat, and recalls what the seat then knows.
 pub(crate) fn take_in<B: Booked>(board: &SharedBoard<B>, place: &mut Place<B>, other: Place<B>)
     requires board { (place.old.table_id ≡ board.now.table_id) × (other.table_id ≡ board.now.table_id) × IsBoard board.now.table_id }
-    requires idle { ((n : ℕ) × (place.old.me.0.number ≡ Some n)) × (place.old.me.0.ticket ≡ None) × (place.old.me.1 ≡ []) × (other.me.0.ticket ≡ None) × (other.me.1 ≡ []) }
+    requires idle { ((n : ℕ) × (place.old.me.0.number ≡ Some n)) × (place.old.me.0.ticket ≡ None) × (place.old.me.1 ≡ [])
+        × (other.me.0.ticket ≡ None) × (other.me.1 ≡ []) }
     ensures same { (place.new.table_id ≡ place.old.table_id) × (place.new.id ≡ place.old.id) }
     ensures met { place.new.me ≡ (merged place.old.me.0 other.me.0, []) }
     ensures sound { IsSound B.who place.new.me.0 }
@@ -142,7 +144,8 @@ pub(crate) fn take_in<B: Booked>(board: &SharedBoard<B>, place: &mut Place<B>, o
     board.load::<Recall>(place, 0);
 }
 
-// Waits for a turn, and takes the value out for good where the seat owns all numbers. Else the turn ends, and the answer is how many were given out.
+// Waits for a turn, and takes the value out for good where the seat owns all numbers.
+// Else the turn ends, and the answer is how many were given out.
 pub(crate) fn take_out<B: Booked, R: Wait>(
     rt: &R,
     board: &SharedBoard<B>,
@@ -189,7 +192,8 @@ pub(crate) fn open_board<B: Booked>(
 ) -> Result<(Board<B>, Place<B>), B>
     requires slots { slots.items ≡ Some about.now.value ∷ [] }
     requires own { Each (λ e. B.who e ≡ 0) (B.stands about.now.value) }
-    ensures ok { IfOk result (λ t. (t.1.table_id ≡ t.0.shared.table_id) × IsBoard t.0.shared.table_id × (t.1.me ≡ (first_view B.who (B.stands about.now.value), []))) }
+    ensures ok { IfOk result (λ t. (t.1.table_id ≡ t.0.shared.table_id) × IsBoard t.0.shared.table_id
+        × (t.1.me ≡ (first_view B.who (B.stands about.now.value), []))) }
     ensures err { IfErr result (λ v. v ≡ about.now.value) }
 {
     match Table::new(alloc, &[0, 0, 1], slots, about) {

@@ -30,7 +30,9 @@ impl Booked for Log {
 
 impl Log {
     fn write(&mut self, line: Line) -> Result<(), AllocError>
-        ensures { MatchResult result (λ _. self.new.lines.items ≡ self.old.lines.items ++ line ∷ []) (λ _. self.new.lines.items ≡ self.old.lines.items) }
+        ensures { MatchResult result
+            (λ _. self.new.lines.items ≡ self.old.lines.items ++ line ∷ [])
+            (λ _. self.new.lines.items ≡ self.old.lines.items) }
     {
         self.lines.push(line)?;
         Ok(())

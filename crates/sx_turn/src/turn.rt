@@ -51,7 +51,7 @@ pub enum SeatFault {
 pub struct CloseFault<T, S> {
     pub whole: T,
     pub token: S,
-    /// How many numbers were given out that the seat neither has nor joined: 1 to 63.
+    /// How many numbers were given out that the seat neither has nor joined, at least 1.
     pub out: u64,
 }
 
