@@ -1,5 +1,5 @@
 -- The rule of the turn in plain words. It speaks of the table: three words, one slot, and the view of each seat that was ever made.
--- A view that was joined into another owns nothing and waits for nothing. The list of entries for which the value stands is called the log.
+-- The view of a seat that joined another is left with nothing. The list of entries for which the value stands is called the log.
 use Rattle.std.specs.Prelude.{◌≡◌, ℕ, ◌+◌, ◌<◌, ◌≤◌, true, false, List, [], ◌∷◌, Option, Some, None}
 use mathlib.Core.Option.{some, none}
 use mathlib.Core.Option as maybe
@@ -43,16 +43,18 @@ module _ {E : Type 0} where
       × ((j : ℕ) (v : View E) (h : List E) → HasView views j v → v.turn ≡ Some h
       → (h ≡ log) × (v.closed ≡ false → homes ≡ none ∷ []) × (v.closed ≡ true → homes ≡ some None ∷ []))
 
-  -- What any seat has seen is a beginning of the log, and so is each list that it had seen before a join. A seat with a number has seen all of it.
+  -- What any seat has seen is a beginning of the log, and so is what both seats had seen at its last join.
+  -- Some seat with a number has seen all of the log.
   abbrev pub AllSeeBeginnings : List E → List (View E) → Type 0
   AllSeeBeginnings log views = ((j : ℕ) (v : View E) → HasView views j v → IsPrefix v.seen log × Each (λ old. IsPrefix old log) v.olds)
       × ((j : ℕ) × (v : View E) × (n : ℕ) × HasView views j v × (v.number ≡ Some n) × (v.seen ≡ log))
 
-  -- With each owned number stand the places of its entries in the log, all and no others. Each entry of the log has a number that was given out.
+  -- With each owned number stand the places of its entries in the log, all and no others.
+  -- Each entry of the log has a number that was given out.
   abbrev pub PlacesAreExact : (E → ℕ) → ℕ → List E → List (View E) → Type 0
   PlacesAreExact who callers log views = ((j : ℕ) (v : View E) → HasView views j v → OwnsPlacesIn who log v) × Each (λ e. who e < callers) log
 
--- The whole rule: the table's words are the tickets, the one that is served and the count of callers, and there is one log, of which all six parts hold.
+-- The whole rule: the words count the tickets, tell the one that is served and count the callers, and there is one log, of which all six parts hold.
 pub record IsOneHistory {B E : Type 0} (stands : B → List E) (who : E → ℕ) (s : State (Option B) (View E)) : Type 0 where
   pub tickets : ℕ
   pub serving : ℕ

@@ -1,6 +1,6 @@
 -- The rule of the turn: what is kept, at every moment, of the table's words, its slot and all views.
 -- Word 0 counts the tickets that were drawn, word 1 is the ticket that is served, and word 2 counts the numbers that were given out. The slot holds the value.
--- specs/PlainRule.antt reads the rule out in words.
+-- The law `rule_in_words` reads the rule out in plain words, which stand in PlainRule.
 use Rattle.std.specs.Prelude.{◌≡◌, ◌⊎◌, ℕ, ◌+◌, ◌^◌, ◌<◌, ◌≤◌, Bool, true, false, List, [], ◌∷◌, Option, Some, None}
 use mathlib.Core.Option.{some, none}
 use mathlib.Core.Option as maybe
@@ -70,7 +70,7 @@ module _ {B E : Type 0} (stands : B → List E) (who : E → ℕ) where
     pub shared : total owned_count views ≡ callers
     -- there are 1 to 64 numbers
     pub bound : (1 ≤ callers) × (callers ≤ 64)
-    -- a view with a number has seen the whole list
+    -- some view with a number has seen the whole list
     pub whole : (k : ℕ) × (v : View E) × (n : ℕ) × (get_elem? views k ≡ some v) × (v.number ≡ Some n) × (v.seen ≡ log)
     -- each entry has a number that was given out
     pub entries : Each (λ e. who e < callers) log

@@ -2,12 +2,12 @@
 //!
 //! A [`Turn`] has one value, which stands for a list of entries (the trait [`Booked`]). A [`Seat`] is a caller's
 //! right to take it: `take` waits for the seat's turn, `give` hands the value back with at most one entry more.
-//! So there is one list, which only grows, whatever the threads do. Each seat knows a beginning of it and the
-//! places of its own entries in it; where two seats meet in a `join`, both are beginnings of one list, and the
-//! last seat closes the turn and has the value.
+//! So there is one list for all threads. Each seat has seen a beginning of it, and knows the places of its own
+//! entries there. What it finds at a `take` begins with what it has seen, what two seats that `join` have seen are
+//! beginnings of one list, and the last seat closes the turn and has the value.
 //!
-//! The lock is a ticket lock: callers draw tickets and are served in their order. That somebody is served, and
-//! when, is not promised.
+//! The lock is a ticket lock: each call that waits draws a ticket, and its turn comes when the ticket is served.
+//! That it comes is not promised.
 #![tactic(auto)]
 
 mod plain;

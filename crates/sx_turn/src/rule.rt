@@ -13,8 +13,10 @@ pub trait Booked: Send {
 
     ghost use Rattle.std.specs.Prelude.{ℕ, List};
 
+    // The list for which a value stands.
     ghost stands: { Self → List Self.Entry };
 
+    // The number of an entry's caller.
     ghost who: { Self.Entry → ℕ };
 }
 

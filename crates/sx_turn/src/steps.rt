@@ -24,6 +24,7 @@ pub(crate) fn draw<B: Booked, R: Wait>(rt: &R, board: &SharedBoard<B>, place: &m
     ensures drawn { place.new.me ≡ (with_ticket result place.old.me.0, []) }
 {
     for _ in rt.forever() {
+        // Behind the last ticket there is none, and the seat would wait for good.
         let next = board.peek(0);
         if next < u64::MAX && board.compare_exchange::<Draw>(place, 0, next, next + 1) == next {
             return next;

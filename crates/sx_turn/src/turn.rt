@@ -95,6 +95,7 @@ impl<B: Booked> Turn<B> {
         let mut place = board.split_seat::<Branch>(&mut seat.place);
         let callers = draw_number(rt, board, &mut place);
         if callers < SEATS {
+            // A copy of the new seat's view tells the asking one what that has seen.
             let note = board.split_seat::<Branch>(&mut place);
             board.join_seat::<Merge>(&mut seat.place, note);
             return Ok(Seat {
