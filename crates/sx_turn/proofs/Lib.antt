@@ -1,0 +1,10 @@
+pub mod Lists
+pub mod Places
+pub mod Views
+pub mod Reseat
+pub mod Queue
+pub mod Numbers
+pub mod Ends
+pub mod Words
+pub mod Hands
+pub mod Calls

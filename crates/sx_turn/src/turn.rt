@@ -1,0 +1,210 @@
+//! The turn, as its callers see it.
+ghost use Rattle.std.specs.Prelude.{◌≡◌, ◌<◌, ◌≤◌, ◌+◌, Some, None, length, IfOk, IfErr};
+ghost use mathlib.Core.List.{IsPrefix};
+ghost use Rattle.sx_turn.specs.declared.turn.SeatFault.TheVariants.{NoSeat};
+ghost use Rattle.sx_turn.specs.Places.{Each};
+ghost use Rattle.sx_turn.specs.Seats.{pairs_of, HasPlacesIn, IsExact, HasNumbersBelow, HasDistinctNumbers, HasAllNumbers, OwnsEachEntry, HasEntriesBelow, first_seat, new_seat, after_take, MayGive, after_give, after_look, after_join};
+
+use crate::plays::{Branch, Merge};
+use crate::rule::{Board, Booked};
+use crate::seat::{Held, Seat};
+use crate::steps::{
+    SEATS, draw_number, free_board, give_value, one_slot, open_board, take_in, take_out, take_value,
+};
+use std::alloc::Global;
+use std::marker::Model;
+use std::snapshot::Snapshot;
+use std::sync::Wait;
+
+/// One value, which the callers of its seats take in turns, and one list of entries, for which it stands.
+/// A turn ends by `close`, and can't be dropped.
+pub struct Turn<B: Booked> {
+    table: Board<B>,
+}
+
+impl<B: Booked> Model for Turn<B> {
+    ghost use Rattle.std.specs.Prelude.{◌≡◌};
+    ghost use Rattle.sx_turn.specs.Seats.{TableId};
+    ghost use Rattle.sx_turn.specs.Moves.{IsBoard};
+
+    ghost Value = { TableId };
+
+    ghost view = { λ t. t.table.shared.table_id };
+
+    ghost invariant = { λ t. IsBoard t.table.shared.table_id };
+}
+
+/// There was no memory.
+#[derive(Clone, Copy, Debug, PartialEq, Eq)]
+pub struct NoMemory;
+
+/// Why there is no new seat.
+#[derive(Clone, Copy, Debug, PartialEq, Eq)]
+pub enum SeatFault {
+    /// So many numbers were given out, 64, and there are no more.
+    NoSeat(u64),
+    /// There was no memory. No call of this crate says so today: `enrol` takes none.
+    NoMemory,
+}
+
+/// A turn that can't be closed yet, with the seat that was to close it.
+pub struct CloseFault<T, S> {
+    pub whole: T,
+    pub token: S,
+    /// How many numbers were given out that the seat neither has nor joined, at least 1.
+    pub out: u64,
+}
+
+impl<B: Booked> Turn<B> {
+    /// A turn over a value, all of whose entries are of number 0, and the seat of that number.
+    /// For want of memory the value comes back.
+    pub fn begin(alloc: Global, value: B) -> Result<(Turn<B>, Seat<B>), B>
+        requires { Each (λ e. B.who e ≡ 0) (B.stands value) }
+        ensures ok { IfOk result (λ t. t.1 ≡ first_seat B.who t.0 (B.stands value)) }
+        ensures err { IfErr result (λ v. v ≡ value) }
+    {
+        let about = Snapshot::of(&value);
+        let slots = one_slot(alloc, value)?;
+        let (table, place) = open_board(alloc, slots, &about)?;
+        let seat = Seat {
+            place,
+            number: 0,
+            owns: 1,
+        };
+        Ok((Turn { table }, seat))
+    }
+
+    /// A new seat with a number of its own, or `NoSeat(64)` exactly where all 64 numbers were given out.
+    /// It waits for a turn, in which the number is drawn; the seat that asks then has seen the list of that turn.
+    /// Numbers are given out in order, so a new one is above each that the asking seat knows of.
+    pub fn enrol<R: Wait>(&self, rt: &R, seat: &mut Seat<B>) -> Result<Seat<B>, SeatFault>
+        requires own { seat.old.turn ≡ self.now }
+        requires idle { seat.old.taken ≡ None }
+
+        ensures new { IfOk result (λ s. s ≡ new_seat self.now s.number s.seen) }
+        ensures number { IfOk result (λ s. (s.number < 64) × (seat.old.known ≤ s.number)) }
+
+        // Nobody that the asking seat knows of has the number, and no entry that was made by then.
+        ensures unused { IfOk result (λ s. HasNumbersBelow s.number seat.old × HasEntriesBelow B.who s.number s.seen) }
+
+        ensures asked { IfOk result (λ s. seat.new ≡ after_look s.seen (s.number + 1) seat.old) }
+        ensures refused { IfErr result (λ f. (f ≡ NoSeat 64) × (seat.new ≡ after_look seat.new.seen 64 seat.old)) }
+        ensures seen { IsPrefix seat.old.seen seat.new.seen }
+    {
+        let board = &self.table.shared;
+        let mut place = board.split_seat::<Branch>(&mut seat.place);
+        let callers = draw_number(rt, board, &mut place);
+        if callers < SEATS {
+            // A copy of the new seat's view tells the asking one what that has seen.
+            let note = board.split_seat::<Branch>(&mut place);
+            board.join_seat::<Merge>(&mut seat.place, note);
+            return Ok(Seat {
+                place,
+                number: callers as u32,
+                owns: 1,
+            });
+        }
+        board.join_seat::<Merge>(&mut seat.place, place);
+        Err(SeatFault::NoSeat(callers))
+    }
+
+    /// One seat takes in another, with its numbers and their places. What both have seen are beginnings of one
+    /// list, and the seat then knows the longer.
+    pub fn join(&self, into: &mut Seat<B>, from: Seat<B>)
+        requires own { (into.old.turn ≡ self.now) × (from.turn ≡ self.now) }
+        requires idle { (into.old.taken ≡ None) × (from.taken ≡ None) }
+
+        ensures met { into.new ≡ after_join into.old from }
+        ensures seen { IsPrefix into.old.seen into.new.seen × IsPrefix from.seen into.new.seen }
+        ensures exact { IsExact B.who into.new }
+        ensures distinct { HasDistinctNumbers into.new }
+    {
+        let Seat {
+            place,
+            number: _,
+            owns,
+        } = from;
+        take_in(&self.table.shared, &mut into.place, place);
+        into.owns += owns;
+    }
+
+    /// Waits for the seat's turn, and takes the value. It stands for a list that begins with what the seat has
+    /// seen, in which the entries of the seat's numbers are those at the places that it kept, and no others.
+    pub fn take<R: Wait>(&self, rt: &R, seat: &mut Seat<B>) -> Held<B>
+        requires own { seat.old.turn ≡ self.now }
+        requires idle { seat.old.taken ≡ None }
+
+        ensures taken { seat.new ≡ after_take (B.stands result) seat.old }
+        ensures seen { IsPrefix seat.old.seen (B.stands result) }
+        ensures exact { HasPlacesIn B.who (B.stands result) seat.old }
+    {
+        let value = take_value(rt, &self.table.shared, &mut seat.place);
+        Held { value }
+    }
+
+    /// Gives the value back, which stands for the list for which it stood at the take, or for that and one entry
+    /// of the seat's number behind it. The seat has then seen that list, and has the place of the new entry.
+    pub fn give(&self, seat: &mut Seat<B>, held: Held<B>)
+        requires own { seat.old.turn ≡ self.now }
+        requires may { MayGive B.who seat.old (B.stands held) }
+        ensures given { seat.new ≡ after_give (B.stands held) seat.old }
+    {
+        let Held { value } = held;
+        give_value(&self.table.shared, &mut seat.place, value);
+    }
+
+    /// Waits for the seat's turn, and takes the value out for good, exactly where each number that was given out
+    /// is the seat's or joined it. Else the turn and the seat come back, and the seat has seen the list so far.
+    pub fn close<R: Wait>(self, rt: &R, seat: Seat<B>) -> Result<B, CloseFault<Turn<B>, Seat<B>>>
+        requires own { seat.turn ≡ self }
+        requires idle { seat.taken ≡ None }
+
+        ensures value { IfOk result (λ v. B.stands v ≡ seat.seen) }
+        ensures all { IfOk result (λ _. HasAllNumbers seat × OwnsEachEntry B.who seat × IsExact B.who seat) }
+
+        // `known` of the seat that comes back is how many numbers were given out.
+        ensures out { IfErr result (λ f. (1 ≤ f.out) × (f.out + length (pairs_of seat) ≡ f.token.known)) }
+        ensures back { IfErr result (λ f. (f.whole ≡ self) × (f.token ≡ after_look f.token.seen f.token.known seat)) }
+        ensures seen { IfErr result (λ f. IsPrefix seat.seen f.token.seen) }
+    {
+        let Turn { table } = self;
+        let Seat {
+            mut place,
+            number,
+            owns,
+        } = seat;
+        match take_out(rt, &table.shared, &mut place, owns) {
+            Ok(value) => {
+                free_board(table, place);
+                Ok(value)
+            }
+            Err(callers) => Err(CloseFault {
+                whole: Turn { table },
+                token: Seat {
+                    place,
+                    number,
+                    owns,
+                },
+                out: callers - owns,
+            }),
+        }
+    }
+}
+
+impl<B: Booked + Drop> CloseFault<Turn<B>, Seat<B>> {
+    /// Lets go of the turn and its value, and of the seat. It answers how many numbers are out.
+    pub fn abandon(self) -> u64
+        ensures { result ≡ self.out }
+    {
+        let CloseFault { whole, token, out } = self;
+        let Turn { table } = whole;
+        let Seat {
+            place,
+            number: _,
+            owns: _,
+        } = token;
+        drop(table);
+        drop(place);
+        out
+    }
+}
