@@ -6,7 +6,7 @@ ghost use Rattle.sx_spec.specs.Account.{session_of};
 ghost use Rattle.sx_spec.specs.History.{is_of_caller, wants};
 ghost use Rattle.sx_spec.specs.Step.{replay, step};
 ghost use Rattle.sx_smb_door.specs.Conversation.{Outcome, Speaker, MayTurn, history_after, answer_of, moments_of, tally_after, entry_of, start_entry, end_entry, with_entry, next_session, full_of, Side, Served, Conversation};
-ghost use Rattle.sx_smb_door.specs.Asking.{IsLive, IsAnswered};
+ghost use Rattle.sx_smb_door.specs.Asking.{IsLive, IsAsked, IsAnswered, noted_stop};
 ghost use Rattle.sx_smb_door.specs.SessionLines.{has_line, is_printed};
 ghost use Rattle.sx_smb_door.specs.Spelling.{is_session_call};
 
@@ -39,7 +39,7 @@ fn start(book: &mut Book, who: u32, now: u64, peer: u32) -> Result<u32, Stop>
     ensures err { OnErr result (book.new ≡ book.old) }
 {
     book.keeps();
-    let at = now.max(book.last_moment());
+    let at = book.last_moment().max(now);
     let entry = Entry {
         who,
         session: 0,
@@ -48,9 +48,10 @@ fn start(book: &mut Book, who: u32, now: u64, peer: u32) -> Result<u32, Stop>
         call: Call::Start { peer },
     };
     match book.step(entry) {
-        Ok(_) => Ok(book.started()),
-        Err(stop) => Err(stop),
+        Ok(_) => {}
+        Err(stop) => return Err(stop),
     }
+    Ok(book.started())
 }
 
 /// Ends a session. It can't be refused.
@@ -59,7 +60,7 @@ fn end(book: &mut Book, party: Party, now: u64)
     requires live { IsLive book.old.entries party.who party.session }
     ensures { book.new ≡ record { entries = with_entry book.old.entries (end_entry party.who party.session book.old.entries now); limit = book.old.limit } }
 {
-    let at = now.max(book.last_moment());
+    let at = book.last_moment().max(now);
     let entry = Entry {
         who: party.who,
         session: party.session,
@@ -87,7 +88,7 @@ fn ask(book: &mut Book, party: Party, now: u64, call: Call) -> Result<Reply, Sto
     ensures err { OnErr result (book.new ≡ book.old) }
     ensures live { IsLive book.new.entries party.who party.session }
 {
-    let at = now.max(book.last_moment());
+    let at = book.last_moment().max(now);
     book.step(Entry {
         who: party.who,
         session: party.session,
@@ -95,4 +96,49 @@ fn ask(book: &mut Book, party: Party, now: u64, call: Call) -> Result<Reply, Sto
         fresh: 0,
         call,
     })
+}
+
+/// Counts a call that came to no place.
+fn note(tally: &mut Tally, stop: Stop)
+    ensures { tally.new ≡ noted_stop tally.old stop }
+{
+    match stop {
+        Stop::NoMemory => tally.starved = true,
+        Stop::HistoryFull {
+            entries,
+            sessions,
+            limit,
+        } => {
+            tally.full = Some(Full {
+                entries,
+                sessions,
+                limit,
+            });
+        }
+    }
+}
+
+/// Asks the call of a line, and gives the answer.
+fn answer_call<C: Clock>(
+    book: &mut Book,
+    party: Party,
+    clock: &mut C,
+    tally: &mut Tally,
+    call: Call,
+) -> LineAnswer
+    requires live { IsLive book.old.entries party.who party.session }
+    requires call { is_session_call call ≡ true }
+    requires asked { tally.old.asked + 1 < 2 ^ 64 }
+    ensures { IsAsked party.who party.session C.ticks call book.old book.new clock.old clock.new tally.old tally.new result }
+{
+    let now = clock.now();
+    let place = book.entries().len() as u64 + 1;
+    tally.asked += 1;
+    match ask(book, party, now, call) {
+        Ok(reply) => LineAnswer::Core { place, reply },
+        Err(stop) => {
+            note(tally, stop);
+            LineAnswer::Stop(stop)
+        }
+    }
 }
