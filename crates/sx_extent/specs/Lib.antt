@@ -1,0 +1,3 @@
+pub mod SparseFile
+pub mod Views
+pub mod GranuleMap
