@@ -3,3 +3,4 @@ pub mod Answering
 pub mod Numbers
 pub mod SessionCalls
 pub mod Splits
+pub mod Turns

@@ -142,3 +142,27 @@ fn answer_call<C: Clock>(
         }
     }
 }
+
+/// Answers one line.
+fn answer_line<C: Clock>(
+    alloc: Global,
+    book: &mut Book,
+    party: Party,
+    share: &ShareName,
+    clock: &mut C,
+    tally: &mut Tally,
+    line: &[u8],
+) -> LineAnswer
+    requires live { IsLive book.old.entries party.who party.session }
+    requires asked { tally.old.asked + 1 < 2 ^ 64 }
+    ensures { IsAnswered (record { who = party.who; session = party.session; share = share.now; limit = book.old.limit }) C.ticks line.now book.old book.new clock.old clock.new tally.old tally.new result }
+{
+    match call_of_line(alloc, share, line) {
+        Err(_) => {
+            tally.starved = true;
+            LineAnswer::Stop(Stop::NoMemory)
+        }
+        Ok(None) => LineAnswer::NotBuilt,
+        Ok(Some(call)) => answer_call(book, party, clock, tally, call),
+    }
+}

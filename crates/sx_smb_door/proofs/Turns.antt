@@ -1,0 +1,101 @@
+-- One line more in a session.
+use Rattle.std.proofs.Common.{ℕ, ◌+◌, ◌≤◌, ◌≡◌, ◌⊎◌, inl, inr, ⊎_elim, true, false, List, [], ◌∷◌, ◌++◌, length, Option, Some, None, refl, sym, ap, ◌∙◌, subst, append_assoc, arith, length-append}
+use Rattle.std.specs.List.{flat_map}
+use Rattle.std.specs.Io.KnownBytes.{Consumes}
+use Rattle.std.proofs.lemmas.List.{append-nil}
+use Rattle.std.proofs.lemmas.List.Concat.{flat_map-append}
+use Rattle.sx_base.specs.Told.{Told, Writes, WritesPrefix}
+use Rattle.sx_base.proofs.Moments.{told_append}
+use Rattle.sx_base.proofs.Streams.{consumes_more, consumes_none}
+use Rattle.sx_call.specs.declared.call.Noted.{Noted}
+use Rattle.sx_book.specs.declared.report.ConnEnd.{ConnEnd}
+use Rattle.sx_smb_door.specs.Conversation.{Outcome, Turn, Speaker, MayTurn, MayTurns, history_after, history_of, answer_of, answers_to, tally_after, tally_of, lines_of, moments_of, moments_told, HasText, HasPrefix}
+use Rattle.sx_smb_door.specs.Limits.{line_limit}
+use Rattle.sx_smb_door.specs.Lines.{ended, IsOneLine}
+use Rattle.sx_smb_door.specs.SessionLines.{lined}
+use Rattle.sx_smb_door.specs.declared.tally.Tally.{Tally}
+
+-- nothing was asked yet
+abbrev pub no_tally : Tally
+no_tally = record { asked = 0; full = None; starved = false }
+
+may_more : (w : Speaker) (ns : List Noted) (ts : List Turn) (t : Turn) → MayTurns w ns ts → IsOneLine t.line → length t.line ≤ line_limit → MayTurn w (history_of w ns ts) t.line t.outcome → MayTurns w ns (ts ++ t ∷ [])
+may_more w ns [] t h one short may = (one, short, may, tt)
+may_more w ns (u ∷ ts) t h one short may = (h.0, h.1, h.2, may_more w (history_after w ns u.outcome) ts t h.3 one short may)
+
+history_more : (w : Speaker) (ns : List Noted) (ts : List Turn) (t : Turn) → history_of w ns (ts ++ t ∷ []) ≡ history_after w (history_of w ns ts) t.outcome
+history_more w ns [] t = refl
+history_more w ns (u ∷ ts) t = history_more w (history_after w ns u.outcome) ts t
+
+tally_more : (w : Speaker) (ns : List Noted) (tally : Tally) (ts : List Turn) (t : Turn) → tally_of w ns tally (ts ++ t ∷ []) ≡ tally_after w (history_of w ns ts) (tally_of w ns tally ts) t.outcome
+tally_more w ns tally [] t = refl
+tally_more w ns tally (u ∷ ts) t = tally_more w (history_after w ns u.outcome) (tally_after w ns tally u.outcome) ts t
+
+-- the answers to one line more
+pub answers_more : (w : Speaker) (ns : List Noted) (ts : List Turn) (t : Turn) → answers_to w ns (ts ++ t ∷ []) ≡ answers_to w ns ts ++ lined (answer_of w (history_of w ns ts) t.outcome)
+answers_more w ns [] t = append-nil (lined (answer_of w ns t.outcome))
+answers_more w ns (u ∷ ts) t =
+    let now : List ℕ = lined (answer_of w ns u.outcome) in
+    let then : List Noted = history_after w ns u.outcome in
+    ap (λ (xs : List ℕ). now ++ xs) (answers_more w then ts t) ∙ sym (append_assoc now (answers_to w then ts) (lined (answer_of w (history_of w then ts) t.outcome)))
+
+flat_more : (f : Turn → List ℕ) (ts : List Turn) (t : Turn) → flat_map f (ts ++ t ∷ []) ≡ flat_map f ts ++ f t
+flat_more f ts t = flat_map-append f ts (t ∷ []) ∙ ap (λ (xs : List ℕ). flat_map f ts ++ xs) (append-nil (f t))
+
+-- the lines that were answered so far, from one stream, history and clock to another
+pub record Going {C : Type 0} (w : Speaker) (ticks : C → ℕ → C → Type 0) (stream stream' : Option (List ℕ)) (ns ns' : List Noted) (clock clock' : C) (tally : Tally) (taken : ℕ) : Type 0 where
+  pub turns : List Turn
+  pub may : MayTurns w ns turns
+  pub bytes : Consumes stream stream' (lines_of turns)
+  pub taken_is : taken ≡ length (lines_of turns)
+  pub history : ns' ≡ history_of w ns turns
+  pub tallied : tally ≡ tally_of w ns no_tally turns
+  pub told : Told ticks clock (moments_told turns) clock'
+
+-- no line yet
+pub going_none : {C : Type 0} (w : Speaker) (ticks : C → ℕ → C → Type 0) (stream : Option (List ℕ)) (ns : List Noted) (clock : C) → Going w ticks stream stream ns ns clock clock no_tally 0
+going_none w ticks stream ns clock = record { turns = []; may = tt; bytes = consumes_none stream; taken_is = refl; history = refl; tallied = refl; told = refl }
+
+-- the lines with one more
+pub going_more : {C : Type 0} (w : Speaker) (ticks : C → ℕ → C → Type 0) (s0 s1 s2 : Option (List ℕ)) (ns0 ns1 ns2 : List Noted) (c0 c1 c2 : C) (t1 t2 : Tally) (k1 k2 : ℕ) (line : List ℕ) (o : Outcome)
+    → Going w ticks s0 s1 ns0 ns1 c0 c1 t1 k1 → IsOneLine line → length line ≤ line_limit → Consumes s1 s2 (ended line) → k2 ≡ k1 + length line + 1
+    → MayTurn w ns1 line o → ns2 ≡ history_after w ns1 o → t2 ≡ tally_after w ns1 t1 o → Told ticks c1 (moments_of o) c2 → Going w ticks s0 s2 ns0 ns2 c0 c2 t2 k2
+going_more {C} w ticks s0 s1 s2 ns0 ns1 ns2 c0 c1 c2 t1 t2 k1 k2 line o g one short taken count may history tallied told =
+    let t : Turn = record { line = line; outcome = o } in
+    let lines : lines_of (g.turns ++ t ∷ []) ≡ lines_of g.turns ++ ended line = flat_more (λ (u : Turn). ended u.line) g.turns t in
+    let moments : moments_told (g.turns ++ t ∷ []) ≡ moments_told g.turns ++ moments_of o = flat_more (λ (u : Turn). moments_of u.outcome) g.turns t in
+    record {
+      turns = g.turns ++ t ∷ [];
+      may = may_more w ns0 g.turns t g.may one short (subst (λ (ns : List Noted). MayTurn w ns line o) g.history may);
+      bytes = subst (Consumes s0 s2) (sym lines) (consumes_more s0 s1 s2 (lines_of g.turns) (ended line) g.bytes taken);
+      taken_is = omega (arith, count, g.taken_is, ap length lines, length-append (lines_of g.turns) (ended line), length-append line (10 ∷ []));
+      history = history ∙ ap (λ (ns : List Noted). history_after w ns o) g.history ∙ sym (history_more w ns0 g.turns t);
+      tallied = tallied ∙ ap (λ (ns : List Noted). tally_after w ns t1 o) g.history ∙ ap (λ (x : Tally). tally_after w (history_of w ns0 g.turns) x o) g.tallied ∙ sym (tally_more w ns0 no_tally g.turns t);
+      told = subst (λ (ms : List ℕ). Told ticks c0 ms c2) (sym moments) (told_append ticks c0 c1 c2 (moments_told g.turns) (moments_of o) g.told told);
+    }
+
+-- ---- what was written
+-- nothing
+pub text_none : (W : List ℕ → Type 0) → HasText W W []
+text_none W m h = subst W (sym (append-nil m)) h
+
+-- one text behind another
+pub text_more : (W0 W1 W2 : List ℕ → Type 0) (x y : List ℕ) → HasText W0 W1 x → HasText W1 W2 y → HasText W0 W2 (x ++ y)
+text_more W0 W1 W2 x y h k m w = subst W2 (append_assoc m x y) (k (m ++ x) (h m w))
+
+-- a prefix of a text behind another
+pub prefix_behind : (W0 W1 W2 : List ℕ → Type 0) (x y : List ℕ) → HasText W0 W1 x → HasPrefix W1 W2 y → HasPrefix W0 W2 (x ++ y)
+prefix_behind W0 W1 W2 x y h k m w =
+    let p = k (m ++ x) (h m w) in
+    (x ++ p.0, (p.1.0, append_assoc x p.0 p.1.0 ∙ ap (λ (t : List ℕ). x ++ t) p.1.1), subst W2 (append_assoc m x p.0) p.2)
+
+-- what is told does not change where what was written does not
+pub text_kept : (W0 W1 W2 : List ℕ → Type 0) (x : List ℕ) → HasText W0 W1 x → ((m : List ℕ) → W1 m → W2 m) → HasText W0 W2 x
+text_kept W0 W1 W2 x h k m w = k (m ++ x) (h m w)
+
+-- by what a sink's clauses say
+pub text_of_writes : {K : Type 0} (wrote : K → List ℕ → Type 0) (a b : K) (x : List ℕ) → Writes wrote a b x → HasText (wrote a) (wrote b) x
+text_of_writes wrote a b x h = h.behind
+
+pub prefix_of_writes : {K : Type 0} (wrote : K → List ℕ → Type 0) (a b : K) (x : List ℕ) → WritesPrefix wrote a b x → HasPrefix (wrote a) (wrote b) x
+prefix_of_writes wrote a b x h = h.behind
