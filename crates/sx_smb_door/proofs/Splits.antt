@@ -71,7 +71,7 @@ searched_some bytes n i h e =
     let here : is_line_end (get_or bytes (n + i) 0) ≡ true = rw (sym (get_or-drop n bytes i 0)) at.1 in
     position_is bytes (n + i) (omega (arith, at.0, length-drop n bytes, h.0))
     (λ k lt. elim (cases_lt k n) [
-      inl low ↦ front_fails bytes n k h low
+      | inl low ↦ front_fails bytes n k h low
       | inr high ↦ rw (behind bytes n k high) (at.2 (k - n) (omega (arith, lt, high)))
     ])
     here
@@ -81,6 +81,6 @@ searched_none bytes n h e =
     let one = one_line (drop n bytes) e in
     position_none bytes
     (λ k lt. elim (cases_lt k n) [
-      inl low ↦ front_fails bytes n k h low
+      | inl low ↦ front_fails bytes n k h low
       | inr high ↦ rw (behind bytes n k high) (one (k - n) 0 (omega (arith, lt, high, length-drop n bytes)))
     ])

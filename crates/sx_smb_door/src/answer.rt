@@ -70,12 +70,7 @@ fn print_stop<K: Sink>(sink: &mut K, stop: &Stop) -> Result<(), Failed>
     }
 }
 
-fn print_full<K: Sink>(
-    sink: &mut K,
-    entries: u64,
-    sessions: u64,
-    limit: u64,
-) -> Result<(), Failed>
+fn print_full<K: Sink>(sink: &mut K, entries: u64, sessions: u64, limit: u64) -> Result<(), Failed>
     ensures ok { OnOk result (Writes K.wrote sink.old sink.new (lined_full entries sessions limit)) }
     ensures err { OnErr result (WritesPrefix K.wrote sink.old sink.new (lined_full entries sessions limit)) }
     ensures cause { HasCause (K.write_count sink.old) (K.write_count sink.new) result }
@@ -134,12 +129,7 @@ fn print_said<K: Sink>(sink: &mut K, place: u64, said: &SmbReply) -> Result<(), 
     }
 }
 
-fn print_number<K: Sink>(
-    sink: &mut K,
-    place: u64,
-    word: &[u8],
-    number: u64,
-) -> Result<(), Failed>
+fn print_number<K: Sink>(sink: &mut K, place: u64, word: &[u8], number: u64) -> Result<(), Failed>
     ensures ok { OnOk result (Writes K.wrote sink.old sink.new (lined_number place word.now number)) }
     ensures err { OnErr result (WritesPrefix K.wrote sink.old sink.new (lined_number place word.now number)) }
     ensures cause { HasCause (K.write_count sink.old) (K.write_count sink.new) result }

@@ -261,11 +261,7 @@ fn read_more<S: Source>(buffer: &mut Vec<u8>, most: usize, source: &mut S) -> Fi
 }
 
 /// Reads over the bytes from a place on.
-fn read_behind<S: Source>(
-    bytes: &mut [u8],
-    at: usize,
-    source: &mut S,
-) -> Result<usize, Failed>
+fn read_behind<S: Source>(bytes: &mut [u8], at: usize, source: &mut S) -> Result<usize, Failed>
     requires { at < length bytes.old }
     ensures front { take at bytes.new ≡ take at bytes.old }
     ensures bound { ReadsAtMost result (drop at bytes.new) }
