@@ -8,3 +8,6 @@ mod parse;
 pub use answer::{LineAnswer, print_line};
 pub use lines::{LINE_LIMIT, LineReader, NextLine};
 pub use parse::call_of_line;
+
+#[cfg(test)]
+mod tests;

@@ -54,7 +54,7 @@ fn spelled(alloc: Global, share: &ShareName, words: &[&[u8]]) -> Result<Option<C
     ensures { IfOk result (λ call. call ≡ spelled share.now (map (λ word. word.now) words.now)) }
 {
     match words.len() {
-        2 => Ok(one_word(words[0], words[1])),
+        2 => Ok(close_words(words[0], words[1])),
         4 => transfer_of(alloc, words[0], words[1], words[2], words[3]),
         7 => begun(alloc, share, words),
         _ => Ok(None),
@@ -73,7 +73,7 @@ fn begun(alloc: Global, share: &ShareName, words: &[&[u8]]) -> Result<Option<Cal
     }
 }
 
-fn one_word(verb: &[u8], k: &[u8]) -> Option<Call>
+fn close_words(verb: &[u8], k: &[u8]) -> Option<Call>
     ensures { result ≡ (if bytes_eq verb.now (codes "close") then close_of k.now else None) }
 {
     if verb == b"close".as_slice() {
