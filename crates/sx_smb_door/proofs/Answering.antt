@@ -1,13 +1,12 @@
 -- What a reader's answer says of its stream.
-use Rattle.std.proofs.Common.{ℕ, ◌+◌, ◌-◌, ◌^◌, ◌<◌, ◌≤◌, ◌≡◌, List, [], ◌∷◌, ◌++◌, length, take, drop, refl, sym, ap, ◌∙◌, subst, position, arith, min, length-append, length-take, IfSome}
+use Rattle.std.proofs.Common.{ℕ, ◌+◌, ◌-◌, ◌≤◌, ◌≡◌, List, ◌++◌, length, take, drop, refl, sym, ap, ◌∙◌, subst, position, arith, length-append, length-take, IfSome}
 use Rattle.std.specs.declared.option.Option.{Option}
 use Rattle.std.specs.declared.option.Option.TheVariants.{None, Some}
-use Rattle.std.specs.Io.KnownBytes.{Keeps, Consumes, IsAtEnd, prepend_known}
+use Rattle.std.specs.Io.KnownBytes.{Keeps, IsAtEnd, prepend_known}
 use Rattle.std.proofs.Math.Seq.{take-append-le, take-add}
 use Rattle.std.proofs.lemmas.List.{append-nil}
 use Rattle.std.proofs.lemmas.List.Quantifiers.{position-Some}
-use Rattle.sx_base.specs.Causes.{Rose}
-use Rattle.sx_base.proofs.Streams.{keeps_same, keeps_more, keeps_held, consumes_held, consumes_kept, end_kept}
+use Rattle.sx_base.proofs.Streams.{keeps_same, keeps_more, consumes_held, consumes_kept, end_kept}
 use Rattle.sx_smb_door.specs.Limits.{line_limit}
 use Rattle.sx_smb_door.specs.Readers.{Lines}
 use Rattle.sx_smb_door.specs.Lines.{is_line_end, IsOneLine, BeginsUnended, IsCutLine, ended, stream, Gives, Stays, Because, Answered}

@@ -1,5 +1,5 @@
 -- Which calls a session's lines spell.
-use Rattle.std.proofs.Common.{ℕ, ◌+◌, ◌<◌, ◌≤◌, ◌≡◌, Bool, true, false, cond, List, [], ◌∷◌, length, bytes_eq, codes, refl, arith, subst, IfSome, nat_le, option_map, map, Bor}
+use Rattle.std.proofs.Common.{ℕ, ◌+◌, ◌<◌, ◌≡◌, Bool, true, false, cond, List, [], ◌∷◌, length, bytes_eq, codes, refl, arith, subst, IfSome, nat_le, option_map, map, Bor}
 use Rattle.std.specs.declared.option.Option.{Option}
 use Rattle.std.specs.declared.option.Option.TheVariants.{None, Some}
 use Rattle.sx_call.specs.declared.call.Call.{Call}

@@ -1,4 +1,4 @@
-use Rattle.std.proofs.Common.{arith, sym, length}
+use Rattle.std.proofs.Common.{arith, sym}
 use Rattle.sx_smb_door.proofs.SessionCalls.{other_words}
 use Rattle.sx_smb_door.proofs.parse.spelled.Goals as goal
 
