@@ -1,16 +1,15 @@
 -- What a reader's answer says of its stream.
-use Rattle.std.proofs.Common.{ℕ, ◌+◌, ◌-◌, ◌^◌, ◌<◌, ◌≤◌, ◌≡◌, List, [], ◌∷◌, ◌++◌, length, take, drop, refl, sym, ap, ◌∙◌, subst, position, arith, min, length-append, length-take, IfSome}
+use Rattle.std.proofs.Common.{ℕ, ◌+◌, ◌-◌, ◌≤◌, ◌≡◌, List, ◌++◌, length, take, drop, refl, sym, ap, ◌∙◌, subst, position, arith, length-append, length-take, IfSome}
 use Rattle.std.specs.declared.option.Option.{Option}
 use Rattle.std.specs.declared.option.Option.TheVariants.{None, Some}
-use Rattle.std.specs.Io.KnownBytes.{Keeps, Consumes, IsAtEnd, prepend_known}
+use Rattle.std.specs.Io.KnownBytes.{Keeps, IsAtEnd, prepend_known}
 use Rattle.std.proofs.Math.Seq.{take-append-le, take-add}
 use Rattle.std.proofs.lemmas.List.{append-nil}
 use Rattle.std.proofs.lemmas.List.Quantifiers.{position-Some}
-use Rattle.sx_base.specs.Causes.{Rose}
-use Rattle.sx_base.proofs.Streams.{keeps_same, keeps_more, keeps_held, consumes_held, consumes_kept, end_kept}
+use Rattle.sx_base.proofs.Streams.{keeps_same, keeps_more, consumes_held, consumes_kept, end_kept}
 use Rattle.sx_smb_door.specs.Limits.{line_limit}
 use Rattle.sx_smb_door.specs.Readers.{Lines}
-use Rattle.sx_smb_door.specs.Lines.{is_line_end, IsOneLine, BeginsOpen, IsCutLine, ended, stream, Gives, Stays, Because, Answered}
+use Rattle.sx_smb_door.specs.Lines.{is_line_end, IsOneLine, BeginsUnended, IsCutLine, ended, stream, Gives, Stays, Because, Answered}
 use Rattle.sx_smb_door.specs.declared.lines.NextLine.{NextLine}
 use Rattle.sx_smb_door.specs.declared.lines.NextLine.TheVariants.{Line, End, Cut, Long, Spent, ReadFault, NoMemory}
 use Rattle.sx_smb_door.proofs.Splits.{one_front, first_line}
@@ -40,17 +39,17 @@ told_end (Some xs) None held h k = absurd h
 told_end (Some xs) (Some ys) held h k = sym h ∙ ap (λ zs. held ++ zs) k ∙ append-nil held
 
 -- what is held begins the stream
-pub told_front : (a b : Option (List ℕ)) (held : List ℕ) (n : ℕ) → Keeps a (prepend_known held b) → BeginsOpen n held → IfSome a (BeginsOpen n)
+pub told_front : (a b : Option (List ℕ)) (held : List ℕ) (n : ℕ) → Keeps a (prepend_known held b) → BeginsUnended n held → IfSome a (BeginsUnended n)
 told_front None b held n h k = tt
 told_front (Some xs) None held n h k = absurd h
 told_front (Some xs) (Some ys) held n h k =
     let P : List ℕ → Type 0 = λ zs. IsOneLine zs in
     let front : take n (held ++ ys) ≡ take n held = take-append-le n held ys k.0 in
-    let Q : List ℕ → Type 0 = λ zs. BeginsOpen n zs in
+    let Q : List ℕ → Type 0 = λ zs. BeginsUnended n zs in
     subst Q h (omega (arith, k.0, length-append held ys), subst P (sym front) k.1)
 
 -- that a line is over its limit
-pub long_answered : (reader : Lines) (left : Option (List ℕ)) (n : ℕ) → BeginsOpen (line_limit + 1) reader.held → Answered (Long reader.taken) reader reader left left n n
+pub long_answered : (reader : Lines) (left : Option (List ℕ)) (n : ℕ) → BeginsUnended (line_limit + 1) reader.held → Answered (Long reader.taken) reader reader left left n n
 long_answered reader left n h = (stays_same reader left, (told_front (stream reader left) left reader.held (line_limit + 1) (keeps_same (stream reader left)) h, h, refl))
 
 -- that a line is given
@@ -87,8 +86,8 @@ pub reason_kept : (next : NextLine) (reader : Lines) (a b : Option (List ℕ)) (
 reason_kept (Line line) reader a b before mid now h le k = k
 reason_kept End reader a b before mid now h le k = (end_kept a b h k.0, k.1, k.2)
 reason_kept (Cut n) reader a b before mid now h le k = (told_kept (IsCutLine n) a b h k.0, k.1, k.2, k.3, k.4)
-reason_kept (Long at) reader a b before mid now h le k = (told_kept (BeginsOpen (line_limit + 1)) a b h k.0, k.1, k.2)
-reason_kept Spent reader a b before mid now h le k = (told_kept (BeginsOpen (reader.budget - reader.taken)) a b h k.0, k.1, k.2, k.3)
+reason_kept (Long at) reader a b before mid now h le k = (told_kept (BeginsUnended (line_limit + 1)) a b h k.0, k.1, k.2)
+reason_kept Spent reader a b before mid now h le k = (told_kept (BeginsUnended (reader.budget - reader.taken)) a b h k.0, k.1, k.2, k.3)
 reason_kept ReadFault reader a b before mid now h le k = omega (arith, le, k)
 reason_kept NoMemory reader a b before mid now h le k = k
 

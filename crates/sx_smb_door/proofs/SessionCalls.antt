@@ -1,5 +1,5 @@
 -- Which calls a session's lines spell.
-use Rattle.std.proofs.Common.{ℕ, ◌+◌, ◌<◌, ◌≤◌, ◌≡◌, Bool, true, false, cond, List, [], ◌∷◌, length, bytes_eq, codes, refl, arith, subst, IfSome, nat_le, option_map}
+use Rattle.std.proofs.Common.{ℕ, ◌+◌, ◌<◌, ◌≡◌, Bool, true, false, cond, List, [], ◌∷◌, length, bytes_eq, codes, refl, arith, subst, IfSome, nat_le, option_map, map, Bor}
 use Rattle.std.specs.declared.option.Option.{Option}
 use Rattle.std.specs.declared.option.Option.TheVariants.{None, Some}
 use Rattle.sx_call.specs.declared.call.Call.{Call}
@@ -18,6 +18,18 @@ too_many share (a ∷ b ∷ c ∷ d ∷ e ∷ []) h = refl
 too_many share (a ∷ b ∷ c ∷ d ∷ e ∷ f ∷ []) h = refl
 too_many share (a ∷ b ∷ c ∷ d ∷ e ∷ f ∷ g ∷ []) h = absurd (let no : ⊥ = omega (arith, h) in no)
 too_many share (a ∷ b ∷ c ∷ d ∷ e ∷ f ∷ g ∷ i ∷ rest) h = refl
+
+-- another number of words than 2, 4 and 7 spells no call
+pub other_words : (share : List ℕ) (words : List (Bor (List ℕ))) → (length words ≡ 2 → ⊥) → (length words ≡ 4 → ⊥) → (length words ≡ 7 → ⊥) → spelled share (map (λ (word : Bor (List ℕ)). word.now) words) ≡ None
+other_words share [] h k l = refl
+other_words share (a ∷ []) h k l = refl
+other_words share (a ∷ b ∷ []) h k l = absurd (h refl)
+other_words share (a ∷ b ∷ c ∷ []) h k l = refl
+other_words share (a ∷ b ∷ c ∷ d ∷ []) h k l = absurd (k refl)
+other_words share (a ∷ b ∷ c ∷ d ∷ e ∷ []) h k l = refl
+other_words share (a ∷ b ∷ c ∷ d ∷ e ∷ f ∷ []) h k l = refl
+other_words share (a ∷ b ∷ c ∷ d ∷ e ∷ f ∷ g ∷ []) h k l = absurd (l refl)
+other_words share (a ∷ b ∷ c ∷ d ∷ e ∷ f ∷ g ∷ i ∷ rest) h k l = refl
 
 -- a call that is spelled, if there is one, is a session's
 abbrev pub IsSession : Option Call → Type 0
@@ -53,9 +65,6 @@ transfers verb k at last =
     either (bytes_eq verb (codes "read")) (read_of k at last) (cond (bytes_eq verb (codes "write")) (write_of k at last) None) (reads (index_of k) (place_of at) (count_of last))
     (either (bytes_eq verb (codes "write")) (write_of k at last) None (writes (index_of k) (place_of at) (bytes_of last)) tt)
 
-begins : (share name part access mode how kind : List ℕ) → IsSession (open_of share name part access mode how kind)
-begins share name part access mode how kind = either (is_opening share name access mode kind) (opening share (part_of part) (how_of how)) None (opens share (part_of part) (how_of how)) tt
-
 words_spell : (share : List ℕ) (words : List (List ℕ)) → IsSession (spelled share words)
 words_spell share [] = tt
 words_spell share (a ∷ []) = tt
@@ -64,7 +73,7 @@ words_spell share (a ∷ b ∷ c ∷ []) = tt
 words_spell share (a ∷ b ∷ c ∷ d ∷ []) = transfers a b c d
 words_spell share (a ∷ b ∷ c ∷ d ∷ e ∷ []) = tt
 words_spell share (a ∷ b ∷ c ∷ d ∷ e ∷ f ∷ []) = tt
-words_spell share (a ∷ b ∷ c ∷ d ∷ e ∷ f ∷ g ∷ []) = either (bytes_eq a (codes "open")) (open_of share b c d e f g) None (begins share b c d e f g) tt
+words_spell share (a ∷ b ∷ c ∷ d ∷ e ∷ f ∷ g ∷ []) = either (is_opening share a b d e g) (open_of share c f) None (opens share (part_of c) (how_of f)) tt
 words_spell share (a ∷ b ∷ c ∷ d ∷ e ∷ f ∷ g ∷ i ∷ rest) = tt
 
 -- a line spells no Start, no End and no Create Share

@@ -1,13 +1,13 @@
 -- The first line of the bytes.
-use Rattle.std.proofs.Common.{ℕ, suc, ◌+◌, ◌-◌, ◌<◌, ◌≤◌, ◌≡◌, ◌==◌, Bool, true, false, cond, List, [], ◌∷◌, ◌++◌, length, get_or, take, drop, refl, sym, ap, ◌∙◌, subst, Option, Some, None, position, arith, nat_lt, append_assoc, add-one, length-take, inl, inr}
-use Rattle.std.specs.List.{All, position_or_len}
+use Rattle.std.proofs.Common.{ℕ, suc, ◌+◌, ◌-◌, ◌<◌, ◌≤◌, ◌≡◌, Bool, true, false, cond, List, ◌∷◌, ◌++◌, length, get_or, take, drop, refl, sym, ap, ◌∙◌, Some, None, position, arith, nat_lt, append_assoc, add-one, length-take, inl, inr}
+use Rattle.std.specs.List.{position_or_len}
 use Rattle.std.proofs.Math.Seq.{drop-cons}
 use Rattle.std.proofs.lemmas.Bool.{ltb-false, eqb-true, lt-ltb, cases_lt}
 use Rattle.std.proofs.lemmas.List.{take-append-drop, get_or-take, get_or-drop, length-drop}
 use Rattle.std.proofs.lemmas.List.Quantifiers.{position-Some}
 use Rattle.std.proofs.lemmas.List.Sums.{fails_before_first, position_or_len_is}
 use Rattle.std.proofs.lemmas.Grind.{common_steps}
-use Rattle.sx_smb_door.specs.Lines.{is_line_end, IsOneLine, BeginsOpen, ended}
+use Rattle.sx_smb_door.specs.Lines.{is_line_end, IsOneLine, BeginsUnended, ended}
 
 none_cond : (b : Bool) (i : ℕ) → cond b (Some i) None ≡ None → b ≡ false
 none_cond true i e = cc
@@ -20,7 +20,7 @@ one_line bytes e k d lt =
     fails_before_first is_line_end bytes k d (omega (arith, ltb-false (position_or_len is_line_end bytes) (length bytes) no))
 
 -- the bytes before the first line's end are one line
-pub one_front : (bytes : List ℕ) (i n : ℕ) → position is_line_end bytes ≡ Some i → n ≤ i → BeginsOpen n bytes
+pub one_front : (bytes : List ℕ) (i n : ℕ) → position is_line_end bytes ≡ Some i → n ≤ i → BeginsUnended n bytes
 one_front bytes i n e le =
     let at = position-Some is_line_end bytes i 0 e in (
       omega (arith, at.0),
@@ -52,7 +52,7 @@ position_none bytes none =
     grind (arith, common_steps)
 
 -- a byte of the front that is known to hold no line's end
-front_fails : (bytes : List ℕ) (n k : ℕ) → BeginsOpen n bytes → k < n → is_line_end (get_or bytes k 0) ≡ false
+front_fails : (bytes : List ℕ) (n k : ℕ) → BeginsUnended n bytes → k < n → is_line_end (get_or bytes k 0) ≡ false
 front_fails bytes n k h lt =
     let same : get_or (take n bytes) k 0 ≡ get_or bytes k 0 = get_or-take n bytes k 0 lt in
     let inside : k < length (take n bytes) = omega (arith, length-take n bytes, h.0, lt) in
@@ -65,7 +65,7 @@ behind bytes n k le =
     sym (get_or-drop n bytes (k - n) 0 ∙ ap (λ (i : ℕ). get_or bytes i 0) sum)
 
 -- searching behind a front that holds no line's end
-pub searched_some : (bytes : List ℕ) (n i : ℕ) → BeginsOpen n bytes → position is_line_end (drop n bytes) ≡ Some i → position is_line_end bytes ≡ Some (n + i)
+pub searched_some : (bytes : List ℕ) (n i : ℕ) → BeginsUnended n bytes → position is_line_end (drop n bytes) ≡ Some i → position is_line_end bytes ≡ Some (n + i)
 searched_some bytes n i h e =
     let at = position-Some is_line_end (drop n bytes) i 0 e in
     let here : is_line_end (get_or bytes (n + i) 0) ≡ true = rw (sym (get_or-drop n bytes i 0)) at.1 in
@@ -76,7 +76,7 @@ searched_some bytes n i h e =
     ])
     here
 
-pub searched_none : (bytes : List ℕ) (n : ℕ) → BeginsOpen n bytes → position is_line_end (drop n bytes) ≡ None → position is_line_end bytes ≡ None
+pub searched_none : (bytes : List ℕ) (n : ℕ) → BeginsUnended n bytes → position is_line_end (drop n bytes) ≡ None → position is_line_end bytes ≡ None
 searched_none bytes n h e =
     let one = one_line (drop n bytes) e in
     position_none bytes

@@ -22,8 +22,8 @@ abbrev pub ended : List ℕ → List ℕ
 ended line = line ++ 10 ∷ []
 
 -- n bytes without a line's end stand at the front
-abbrev pub BeginsOpen : ℕ → List ℕ → Type 0
-BeginsOpen n bytes = (n ≤ length bytes) × IsOneLine (take n bytes)
+abbrev pub BeginsUnended : ℕ → List ℕ → Type 0
+BeginsUnended n bytes = (n ≤ length bytes) × IsOneLine (take n bytes)
 
 -- the bytes are what is left of a line
 abbrev pub IsCutLine : ℕ → List ℕ → Type 0
@@ -53,8 +53,8 @@ abbrev pub Because : NextLine → Lines → Option (List ℕ) → ℕ → ℕ �
 Because (Line line) reader bytes before now = ⊥
 Because End reader bytes before now = IsAtEnd bytes × (reader.held ≡ []) × (reader.taken < reader.budget)
 Because (Cut left) reader bytes before now = IfSome bytes (IsCutLine left) × IsCutLine left reader.held × (1 ≤ left) × (left ≤ line_limit) × (reader.taken + left < reader.budget)
-Because (Long at) reader bytes before now = IfSome bytes (BeginsOpen (line_limit + 1)) × BeginsOpen (line_limit + 1) reader.held × (at ≡ reader.taken)
-Because Spent reader bytes before now = IfSome bytes (BeginsOpen (reader.budget - reader.taken)) × IsCutLine (reader.budget - reader.taken) reader.held × (reader.taken ≤ reader.budget) × (reader.budget ≤ reader.taken + line_limit)
+Because (Long at) reader bytes before now = IfSome bytes (BeginsUnended (line_limit + 1)) × BeginsUnended (line_limit + 1) reader.held × (at ≡ reader.taken)
+Because Spent reader bytes before now = IfSome bytes (BeginsUnended (reader.budget - reader.taken)) × IsCutLine (reader.budget - reader.taken) reader.held × (reader.taken ≤ reader.budget) × (reader.budget ≤ reader.taken + line_limit)
 Because ReadFault reader bytes before now = Rose before now
 Because NoMemory reader bytes before now = Unit {0}
 

@@ -54,15 +54,15 @@ abbrev pub lined_close : ℕ → Fate → List ℕ
 lined_close place Kept = concat (codes "OK " ∷ decimal place ∷ codes " close kept\n" ∷ [])
 
 -- no bytes were read: `OK PLACE read 0 -`
-abbrev pub lined_nothing : ℕ → List ℕ
-lined_nothing place = concat (codes "OK " ∷ decimal place ∷ codes " read 0 -\n" ∷ [])
+abbrev pub lined_no_bytes : ℕ → List ℕ
+lined_no_bytes place = concat (codes "OK " ∷ decimal place ∷ codes " read 0 -\n" ∷ [])
 
 -- `OK PLACE read N HEX`
-abbrev pub lined_some : ℕ → List ℕ → List ℕ
-lined_some place bytes = concat (codes "OK " ∷ decimal place ∷ codes " read " ∷ decimal (length bytes) ∷ codes " " ∷ encode_lower bytes ∷ codes "\n" ∷ [])
+abbrev pub lined_some_bytes : ℕ → List ℕ → List ℕ
+lined_some_bytes place bytes = concat (codes "OK " ∷ decimal place ∷ codes " read " ∷ decimal (length bytes) ∷ codes " " ∷ encode_lower bytes ∷ codes "\n" ∷ [])
 
 abbrev pub lined_bytes : ℕ → List ℕ → List ℕ
-lined_bytes place bytes = if nat_eq (length bytes) 0 then lined_nothing place else lined_some place bytes
+lined_bytes place bytes = if nat_eq (length bytes) 0 then lined_no_bytes place else lined_some_bytes place bytes
 
 abbrev pub lined_wrote : ℕ → ℕ → ℕ → List ℕ
 lined_wrote place count length = concat (codes "OK " ∷ decimal place ∷ codes " write " ∷ decimal count ∷ codes " " ∷ decimal length ∷ codes "\n" ∷ [])
@@ -80,8 +80,8 @@ abbrev pub lined_error : List ℕ → ℕ → List ℕ → List ℕ
 lined_error word place message = concat (codes "ERR " ∷ word ∷ decimal place ∷ message ∷ [])
 
 -- the same with a number at the end
-abbrev pub lined_fault : List ℕ → ℕ → List ℕ → ℕ → List ℕ
-lined_fault word place message number = concat (codes "ERR " ∷ word ∷ decimal place ∷ message ∷ decimal number ∷ codes "\n" ∷ [])
+abbrev pub lined_error_number : List ℕ → ℕ → List ℕ → ℕ → List ℕ
+lined_error_number word place message number = concat (codes "ERR " ∷ word ∷ decimal place ∷ message ∷ decimal number ∷ codes "\n" ∷ [])
 
 -- the same with a handle, SESSION.INDEX, in the message
 abbrev pub lined_no_handle : List ℕ → ℕ → HandleId → List ℕ
@@ -100,10 +100,10 @@ word_of ShareThere = []
 -- a refusal's word, place and message; none where it has no word
 abbrev pub lined_refusal : ℕ → Refusal → List ℕ
 lined_refusal place ShareAbsent = lined_error (word_of ShareAbsent) place (codes " no share\n")
-lined_refusal place (ParentAbsent parts) = lined_fault (word_of (ParentAbsent parts)) place (codes " no parent ") parts
+lined_refusal place (ParentAbsent parts) = lined_error_number (word_of (ParentAbsent parts)) place (codes " no parent ") parts
 lined_refusal place NameAbsent = lined_error (word_of NameAbsent) place (codes " no name\n")
-lined_refusal place (NameThere id) = lined_fault (word_of (NameThere id)) place (codes " there id ") id
-lined_refusal place (IsDirectory id) = lined_fault (word_of (IsDirectory id)) place (codes " directory id ") id
+lined_refusal place (NameThere id) = lined_error_number (word_of (NameThere id)) place (codes " there id ") id
+lined_refusal place (IsDirectory id) = lined_error_number (word_of (IsDirectory id)) place (codes " directory id ") id
 lined_refusal place (NoHandle handle) = lined_no_handle (word_of (NoHandle handle)) place handle
 lined_refusal place ShareThere = []
 

@@ -43,13 +43,17 @@ place_of word = number_in 0 65536 word
 abbrev pub count_of : List ℕ → Option ℕ
 count_of word = number_in 1 1048576 word
 
+-- bytes, if there are any
+abbrev pub some_bytes : List ℕ → Option (List ℕ)
+some_bytes bytes = if nat_eq (length bytes) 0 then None else Some bytes
+
 abbrev pub decoded_bytes : Result (List ℕ) FromHexError → Option (List ℕ)
-decoded_bytes (Ok bytes) = Some bytes
+decoded_bytes (Ok bytes) = some_bytes bytes
 decoded_bytes (Err error) = None
 
 -- the bytes of an even number of hexadecimal digits, at least two
 abbrev pub bytes_of : List ℕ → Option (List ℕ)
-bytes_of word = if nat_eq (length word) 0 then None else decoded_bytes (decode_of word)
+bytes_of word = decoded_bytes (decode_of word)
 
 -- a percent sign stands at this place, and two hexadecimal digits don't follow it
 abbrev pub is_bad_escape : List ℕ → ℕ → Bool
@@ -81,11 +85,11 @@ opening share (Some part) None = None
 opening share (Some part) (Some how) = Some (SmbOpen share (part ∷ []) read_write all_shared how)
 
 -- the words that are the same in each line that opens a file of the session's share
-abbrev pub is_opening : List ℕ → List ℕ → List ℕ → List ℕ → List ℕ → Bool
-is_opening share name access mode kind = bytes_eq name share && bytes_eq access (codes "rw") && bytes_eq mode (codes "rwd") && bytes_eq kind (codes "file")
+abbrev pub is_opening : List ℕ → List ℕ → List ℕ → List ℕ → List ℕ → List ℕ → Bool
+is_opening share verb name access mode kind = bytes_eq verb (codes "open") && bytes_eq name share && bytes_eq access (codes "rw") && bytes_eq mode (codes "rwd") && bytes_eq kind (codes "file")
 
-abbrev pub open_of : List ℕ → List ℕ → List ℕ → List ℕ → List ℕ → List ℕ → List ℕ → Option Call
-open_of share name part access mode how kind = if is_opening share name access mode kind then opening share (part_of part) (how_of how) else None
+abbrev pub open_of : List ℕ → List ℕ → List ℕ → Option Call
+open_of share part how = opening share (part_of part) (how_of how)
 
 abbrev pub close_of : List ℕ → Option Call
 close_of k = option_map SmbClose (index_of k)
@@ -117,7 +121,7 @@ transfer_of verb k at last = if bytes_eq verb (codes "read") then read_of k at l
 abbrev pub spelled : List ℕ → List (List ℕ) → Option Call
 spelled share (verb ∷ k ∷ []) = if bytes_eq verb (codes "close") then close_of k else None
 spelled share (verb ∷ k ∷ at ∷ last ∷ []) = transfer_of verb k at last
-spelled share (verb ∷ name ∷ part ∷ access ∷ mode ∷ how ∷ kind ∷ []) = if bytes_eq verb (codes "open") then open_of share name part access mode how kind else None
+spelled share (verb ∷ name ∷ part ∷ access ∷ mode ∷ how ∷ kind ∷ []) = if is_opening share verb name access mode kind then open_of share part how else None
 spelled share words = None
 
 -- the call that a line spells in a session of this share

@@ -1,7 +1,7 @@
 ghost use Rattle.std.specs.Prelude.{◌≡◌, true, OnOk, OnErr};
 ghost use Rattle.sx_base.specs.Causes.{HasCause};
 ghost use Rattle.sx_base.specs.Told.{Writes, WritesPrefix};
-ghost use Rattle.sx_smb_door.specs.SessionLines.{has_line, has_word, is_printed, lined, lined_reply, lined_said, lined_number, lined_open, lined_close, lined_bytes, lined_nothing, lined_some, lined_wrote, lined_refusal, lined_error, lined_fault, lined_no_handle, lined_full, lined_long, lined_stop, made_word, word_of};
+ghost use Rattle.sx_smb_door.specs.SessionLines.{has_line, has_word, is_printed, lined, lined_reply, lined_said, lined_number, lined_open, lined_close, lined_bytes, lined_no_bytes, lined_some_bytes, lined_wrote, lined_refusal, lined_error, lined_error_number, lined_no_handle, lined_full, lined_long, lined_stop, made_word, word_of};
 
 use crate::lines::LINE_LIMIT;
 use sx_base::{Failed, Fragment, Sink, print};
@@ -208,15 +208,15 @@ fn print_bytes<K: Sink>(sink: &mut K, place: u64, bytes: &[u8]) -> Result<(), Fa
     ensures step { K.puts sink.old sink.new }
 {
     if bytes.is_empty() {
-        print_nothing(sink, place)
+        print_no_bytes(sink, place)
     } else {
-        print_some(sink, place, bytes)
+        print_some_bytes(sink, place, bytes)
     }
 }
 
-fn print_nothing<K: Sink>(sink: &mut K, place: u64) -> Result<(), Failed>
-    ensures ok { OnOk result (Writes K.wrote sink.old sink.new (lined_nothing place)) }
-    ensures err { OnErr result (WritesPrefix K.wrote sink.old sink.new (lined_nothing place)) }
+fn print_no_bytes<K: Sink>(sink: &mut K, place: u64) -> Result<(), Failed>
+    ensures ok { OnOk result (Writes K.wrote sink.old sink.new (lined_no_bytes place)) }
+    ensures err { OnErr result (WritesPrefix K.wrote sink.old sink.new (lined_no_bytes place)) }
     ensures cause { HasCause (K.write_count sink.old) (K.write_count sink.new) result }
     ensures step { K.puts sink.old sink.new }
 {
@@ -230,9 +230,9 @@ fn print_nothing<K: Sink>(sink: &mut K, place: u64) -> Result<(), Failed>
     )
 }
 
-fn print_some<K: Sink>(sink: &mut K, place: u64, bytes: &[u8]) -> Result<(), Failed>
-    ensures ok { OnOk result (Writes K.wrote sink.old sink.new (lined_some place bytes.now)) }
-    ensures err { OnErr result (WritesPrefix K.wrote sink.old sink.new (lined_some place bytes.now)) }
+fn print_some_bytes<K: Sink>(sink: &mut K, place: u64, bytes: &[u8]) -> Result<(), Failed>
+    ensures ok { OnOk result (Writes K.wrote sink.old sink.new (lined_some_bytes place bytes.now)) }
+    ensures err { OnErr result (WritesPrefix K.wrote sink.old sink.new (lined_some_bytes place bytes.now)) }
     ensures cause { HasCause (K.write_count sink.old) (K.write_count sink.new) result }
     ensures step { K.puts sink.old sink.new }
 {
@@ -281,14 +281,14 @@ fn print_refusal<K: Sink>(sink: &mut K, place: u64, refusal: &Refusal) -> Result
     match refusal {
         Refusal::ShareAbsent => print_error(sink, word, place, b" no share\n".as_slice()),
         Refusal::ParentAbsent { parts } => {
-            print_fault(sink, word, place, b" no parent ".as_slice(), *parts as u64)
+            print_error_number(sink, word, place, b" no parent ".as_slice(), *parts as u64)
         }
         Refusal::NameAbsent => print_error(sink, word, place, b" no name\n".as_slice()),
         Refusal::NameThere { id } => {
-            print_fault(sink, word, place, b" there id ".as_slice(), *id)
+            print_error_number(sink, word, place, b" there id ".as_slice(), *id)
         }
         Refusal::IsDirectory { id } => {
-            print_fault(sink, word, place, b" directory id ".as_slice(), *id)
+            print_error_number(sink, word, place, b" directory id ".as_slice(), *id)
         }
         Refusal::NoHandle { handle } => print_no_handle(sink, word, place, handle),
         Refusal::ShareThere => unreachable!(),
@@ -333,15 +333,15 @@ fn print_error<'a, K: Sink>(
 }
 
 /// As `print_error`, with a number at the message's end.
-fn print_fault<'a, K: Sink>(
+fn print_error_number<'a, K: Sink>(
     sink: &mut K,
     word: &'a [u8],
     place: u64,
     message: &'a [u8],
     number: u64,
 ) -> Result<(), Failed>
-    ensures ok { OnOk result (Writes K.wrote sink.old sink.new (lined_fault word.now place message.now number)) }
-    ensures err { OnErr result (WritesPrefix K.wrote sink.old sink.new (lined_fault word.now place message.now number)) }
+    ensures ok { OnOk result (Writes K.wrote sink.old sink.new (lined_error_number word.now place message.now number)) }
+    ensures err { OnErr result (WritesPrefix K.wrote sink.old sink.new (lined_error_number word.now place message.now number)) }
     ensures cause { HasCause (K.write_count sink.old) (K.write_count sink.new) result }
     ensures step { K.puts sink.old sink.new }
 {

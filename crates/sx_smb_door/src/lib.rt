@@ -10,3 +10,6 @@ mod tally;
 pub use answer::{LineAnswer, print_line};
 pub use lines::{LINE_LIMIT, LineReader, NextLine};
 pub use parse::call_of_line;
+
+#[cfg(test)]
+mod tests;

@@ -3,7 +3,7 @@ ghost use Rattle.std.specs.declared.option.Option.{Option};
 ghost use Rattle.std.specs.Io.{ReadsAtMost};
 ghost use Rattle.std.specs.Io.KnownBytes.{ReadConsumes};
 ghost use Rattle.sx_base.specs.Causes.{HasCause};
-ghost use Rattle.sx_smb_door.specs.Lines.{is_line_end, IsOneLine, BeginsOpen, WantsMore, Answered, AtEnd, Filling, Reading};
+ghost use Rattle.sx_smb_door.specs.Lines.{is_line_end, IsOneLine, BeginsUnended, WantsMore, Answered, AtEnd, Filling, Reading};
 
 use std::alloc::Global;
 use std::marker::Model;
@@ -114,7 +114,7 @@ impl LineReader {
 
     /// The answer that needs no read, if there is one. The first `searched` bytes are known to hold no line feed.
     fn ready(&mut self, searched: usize) -> Option<NextLine>
-        requires { BeginsOpen searched self.old.held }
+        requires { BeginsUnended searched self.old.held }
         ensures within { self.new.taken + length self.new.held ≤ self.new.budget }
         ensures answered { MatchOption result ((self.new ≡ self.old) × WantsMore self.new) (λ next. (left : Option (List ℕ)) → (count : ℕ) → Answered next self.old self.new left left count count) }
     {
@@ -209,7 +209,7 @@ fn move_to_front(buffer: &mut Vec<u8>, start: usize)
 
 /// The place of the first line feed. The first `searched` bytes are known to hold none.
 fn line_end(bytes: &[u8], searched: usize) -> Option<usize>
-    requires { BeginsOpen searched bytes.now }
+    requires { BeginsUnended searched bytes.now }
     ensures { result ≡ position is_line_end bytes.now }
 {
     match first_line_end(&bytes[searched..]) {

@@ -3,7 +3,7 @@ ghost use Rattle.std.specs.List.{list_all, list_any, range_with_len, slice_split
 ghost use Rattle.std.specs.Char.{is_ascii_digit, is_digit};
 ghost use Rattle.std.specs.Str.Parse.{digits_value};
 ghost use Rattle.percent_encoding.specs.Percent.{percent_decode};
-ghost use Rattle.sx_smb_door.specs.Spelling.{without_return, is_number, within, number_in, index_of, place_of, count_of, decoded_bytes, bytes_of, is_bad_escape, has_bad_escape, named_part, part_of, how_of, is_opening, opening, open_of, close_of, read_of, writing, write_of, transfer_of, spelled, call_of};
+ghost use Rattle.sx_smb_door.specs.Spelling.{without_return, is_number, within, number_in, index_of, place_of, count_of, some_bytes, bytes_of, is_bad_escape, has_bad_escape, named_part, part_of, how_of, is_opening, opening, open_of, close_of, read_of, writing, write_of, transfer_of, spelled, call_of};
 
 use hex::FromHexError;
 use percent_encoding::percent_decode;
@@ -53,20 +53,27 @@ fn words_of<'a>(alloc: Global, text: &'a [u8]) -> Result<Vec<&'a [u8]>, AllocErr
 fn spelled(alloc: Global, share: &ShareName, words: &[&[u8]]) -> Result<Option<Call>, NoMemory>
     ensures { IfOk result (λ call. call ≡ spelled share.now (map (λ word. word.now) words.now)) }
 {
-    match words {
-        [verb, k] => Ok(one_word(verb, k)),
-        [verb, k, at, last] => transfer_of(alloc, verb, k, at, last),
-        [verb, name, part, access, mode, how, kind] => {
-            if *verb != b"open".as_slice() {
-                return Ok(None);
-            }
-            open_of(alloc, share, name, part, access, mode, how, kind)
-        }
+    match words.len() {
+        2 => Ok(close_words(words[0], words[1])),
+        4 => transfer_of(alloc, words[0], words[1], words[2], words[3]),
+        7 => begun(alloc, share, words),
         _ => Ok(None),
     }
 }
 
-fn one_word(verb: &[u8], k: &[u8]) -> Option<Call>
+/// The call of seven words.
+fn begun(alloc: Global, share: &ShareName, words: &[&[u8]]) -> Result<Option<Call>, NoMemory>
+    requires { length words.now ≡ 7 }
+    ensures { IfOk result (λ call. call ≡ spelled share.now (map (λ word. word.now) words.now)) }
+{
+    if is_opening(share, words[0], words[1], words[3], words[4], words[6]) {
+        open_of(alloc, share, words[2], words[5])
+    } else {
+        Ok(None)
+    }
+}
+
+fn close_words(verb: &[u8], k: &[u8]) -> Option<Call>
     ensures { result ≡ (if bytes_eq verb.now (codes "close") then close_of k.now else None) }
 {
     if verb == b"close".as_slice() {
@@ -147,21 +154,31 @@ fn writing(index: u32, at: u64, bytes: Vec<u8>) -> Option<Call>
     }
 }
 
+fn is_opening(
+    share: &ShareName,
+    verb: &[u8],
+    name: &[u8],
+    access: &[u8],
+    mode: &[u8],
+    kind: &[u8],
+) -> bool
+    ensures { result ≡ is_opening share.now verb.now name.now access.now mode.now kind.now }
+{
+    verb == b"open".as_slice()
+        && name == share.bytes()
+        && access == b"rw".as_slice()
+        && mode == b"rwd".as_slice()
+        && kind == b"file".as_slice()
+}
+
 fn open_of(
     alloc: Global,
     share: &ShareName,
-    name: &[u8],
     part: &[u8],
-    access: &[u8],
-    mode: &[u8],
     how: &[u8],
-    kind: &[u8],
 ) -> Result<Option<Call>, NoMemory>
-    ensures { IfOk result (λ call. call ≡ open_of share.now name.now part.now access.now mode.now how.now kind.now) }
+    ensures { IfOk result (λ call. call ≡ open_of share.now part.now how.now) }
 {
-    if !is_opening(share, name, access, mode, kind) {
-        return Ok(None);
-    }
     let Some(part) = part_of(alloc, part)? else {
         return Ok(None);
     };
@@ -170,15 +187,6 @@ fn open_of(
     };
     let call = opening(alloc, share, part, how)?;
     Ok(Some(call))
-}
-
-fn is_opening(share: &ShareName, name: &[u8], access: &[u8], mode: &[u8], kind: &[u8]) -> bool
-    ensures { result ≡ is_opening share.now name.now access.now mode.now kind.now }
-{
-    name == share.bytes()
-        && access == b"rw".as_slice()
-        && mode == b"rwd".as_slice()
-        && kind == b"file".as_slice()
 }
 
 fn opening(alloc: Global, share: &ShareName, part: Part, how: How) -> Result<Call, NoMemory>
@@ -268,14 +276,18 @@ fn bytes_of(alloc: Global, word: &[u8]) -> Result<Option<Vec<u8>>, NoMemory>
     ensures value { IfOk result (λ bytes. option_map (λ b. b.items) bytes ≡ bytes_of word.now) }
     ensures some { IfOk result (λ bytes. IfSome bytes (λ b. 1 ≤ length b.items)) }
 {
-    if word.is_empty() {
-        return Ok(None);
-    }
     match hex::decode(alloc, word) {
-        Ok(bytes) => Ok(Some(bytes)),
+        Ok(bytes) => Ok(some_bytes(bytes)),
         Err(FromHexError::OutOfMemory) => Err(NoMemory),
         Err(_) => Ok(None),
     }
+}
+
+fn some_bytes(bytes: Vec<u8>) -> Option<Vec<u8>>
+    ensures value { option_map (λ b. b.items) result ≡ some_bytes bytes.items }
+    ensures some { IfSome result (λ b. 1 ≤ length b.items) }
+{
+    if bytes.is_empty() { None } else { Some(bytes) }
 }
 
 fn index_of(word: &[u8]) -> Option<u32>

@@ -1,4 +1,4 @@
-use Rattle.std.proofs.Common.{rules, arith, ℕ, ◌≡◌, ◌++◌, ◌+◌, ◌<◌, ◌≤◌, List, take, drop, length, refl, sym, ◌∙◌, length-drop}
+use Rattle.std.proofs.Common.{arith, ℕ, ◌≡◌, ◌+◌, ◌<◌, ◌≤◌, List, take, drop, length, sym, ◌∙◌}
 use Rattle.std.proofs.lemmas.Grind.{common_steps}
 use Rattle.sx_smb_door.proofs.Answering.{read_grew}
 use Rattle.sx_smb_door.proofs.lines.read_more.Goals as goal

@@ -1,13 +1,13 @@
-use Rattle.std.proofs.Common.{ℕ, ◌≤◌, ◌+◌, ◌-◌, length}
+use Rattle.std.proofs.Common.{◌≤◌, ◌+◌, ◌-◌, length}
 use Rattle.sx_smb_door.specs.Limits.{line_limit}
-use Rattle.sx_smb_door.specs.Lines.{BeginsOpen, Stays}
+use Rattle.sx_smb_door.specs.Lines.{BeginsUnended, Stays}
 use Rattle.sx_smb_door.proofs.lines.LineReader.next.Given as goal
 
 -- nothing was given since the call's begin, and the bytes that were searched hold no line's end
 abbrev pub invariant-loop-next : goal.invariant-loop-next
 invariant-loop-next g l = record {
   stays : Stays l.fn.self l.self (g.S.Source.left l.fn.source) (g.S.Source.left l.source);
-  searched : BeginsOpen l.searched l.self.held;
+  searched : BeginsUnended l.searched l.self.held;
   later : g.S.Source.read_count l.fn.source ≤ g.S.Source.read_count l.source;
   step : g.S.Source.reads l.fn.source l.source;
 }

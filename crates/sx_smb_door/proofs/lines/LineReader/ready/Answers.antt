@@ -1,4 +1,4 @@
-use Rattle.std.proofs.Common.{ℕ, ◌≡◌, List, position, None}
+use Rattle.std.proofs.Common.{◌≡◌, position, None}
 use Rattle.sx_smb_door.specs.Lines.{is_line_end}
 use Rattle.sx_smb_door.proofs.Splits.{one_line}
 use Rattle.sx_smb_door.proofs.lines.LineReader.ready.Goals as goal

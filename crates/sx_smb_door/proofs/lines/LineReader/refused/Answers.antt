@@ -1,4 +1,4 @@
-use Rattle.std.proofs.Common.{◌+◌, ◌≤◌, ◌≡◌, List, ℕ, length, take, arith, ap}
+use Rattle.std.proofs.Common.{◌+◌, ◌≤◌, ◌≡◌, List, ℕ, length, arith, ap}
 use Rattle.std.proofs.lemmas.List.Elements.{All-take}
 use Rattle.sx_smb_door.specs.Limits.{line_limit}
 use Rattle.sx_smb_door.specs.Lines.{is_line_end}
