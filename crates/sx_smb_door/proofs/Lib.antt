@@ -1,5 +1,6 @@
 pub mod Asks
 pub mod Answering
+pub mod Ends
 pub mod Numbers
 pub mod SessionCalls
 pub mod Splits

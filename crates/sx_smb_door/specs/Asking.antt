@@ -1,5 +1,5 @@
 -- What a session asks of a book, line by line.
-use Rattle.std.specs.Prelude.{ℕ, ◌+◌, ◌<◌, ◌≤◌, ◌≡◌, ◌⊎◌, true, List, length, Some}
+use Rattle.std.specs.Prelude.{ℕ, ◌+◌, ◌<◌, ◌≤◌, ◌≡◌, ◌⊎◌, false, true, List, length, None, Some}
 use Rattle.sx_base.specs.Told.{Told}
 use Rattle.sx_call.specs.declared.call.Call.{Call}
 use Rattle.sx_call.specs.declared.call.Noted.{Noted}
@@ -28,6 +28,10 @@ pub record IsAnswered {C : Type 0} (w : Speaker) (ticks : C → ℕ → C → Ty
   pub answer_is : answer ≡ answer_of w old.entries outcome
   pub printed : is_printed answer ≡ true
   pub live : IsLive new.entries w.who w.session
+
+-- nothing was asked yet
+abbrev pub no_tally : Tally
+no_tally = record { asked = 0; full = None; starved = false }
 
 -- the counts after a call that came to no place
 abbrev pub noted_stop : Tally → Stop → Tally

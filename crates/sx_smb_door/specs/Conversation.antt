@@ -18,7 +18,7 @@ use Rattle.sx_book.specs.declared.report.ConnEnd.{ConnEnd}
 use Rattle.sx_book.specs.declared.report.ConnEnd.TheVariants as finish
 use Rattle.sx_book.specs.declared.report.ConnReport.{ConnReport}
 use Rattle.sx_smb_door.specs.Limits.{line_limit}
-use Rattle.sx_smb_door.specs.Lines.{ended, IsOneLine, IsCutLine, BeginsOpen}
+use Rattle.sx_smb_door.specs.Lines.{ended, IsOneLine, IsCutLine, BeginsUnended}
 use Rattle.sx_smb_door.specs.SessionLines.{lined}
 use Rattle.sx_smb_door.specs.Spelling.{call_of}
 use Rattle.sx_smb_door.specs.declared.answer.LineAnswer.{LineAnswer}
@@ -131,9 +131,9 @@ moments_told ts = flat_map (λ t. moments_of t.outcome) ts
 abbrev pub IsEnd : ConnEnd → Option (List ℕ) → ℕ → ℕ → ℕ → ℕ → ℕ → ℕ → Type 0
 IsEnd finish.Ended rest taken budget reads reads' writes writes' = IsAtEnd rest × (taken < budget)
 IsEnd (finish.Closed None) rest taken budget reads reads' writes writes' = ⊥
-IsEnd (finish.Closed (Some at)) rest taken budget reads reads' writes writes' = IfSome rest (BeginsOpen (line_limit + 1)) × (at ≡ taken)
+IsEnd (finish.Closed (Some at)) rest taken budget reads reads' writes writes' = IfSome rest (BeginsUnended (line_limit + 1)) × (at ≡ taken)
 IsEnd (finish.Cut left) rest taken budget reads reads' writes writes' = IfSome rest (IsCutLine left) × (1 ≤ left) × (left ≤ line_limit) × (taken + left < budget)
-IsEnd finish.Spent rest taken budget reads reads' writes writes' = IfSome rest (BeginsOpen (budget - taken)) × (taken ≤ budget) × (budget ≤ taken + line_limit)
+IsEnd finish.Spent rest taken budget reads reads' writes writes' = IfSome rest (BeginsUnended (budget - taken)) × (taken ≤ budget) × (budget ≤ taken + line_limit)
 IsEnd finish.ReadFault rest taken budget reads reads' writes writes' = Rose reads reads'
 IsEnd finish.WriteFault rest taken budget reads reads' writes writes' = Rose writes writes'
 IsEnd (finish.Full full) rest taken budget reads reads' writes writes' = ⊥
@@ -154,7 +154,7 @@ taken_at finish.NoMemory taken budget = taken
 abbrev pub IsClosing : ConnEnd → Option (List ℕ) → List ℕ → Type 0
 IsClosing (finish.Closed None) rest text = text ≡ []
 IsClosing (finish.Closed (Some at)) rest text = text ≡ lined Long
-IsClosing finish.WriteFault rest text = (text ≡ []) ⊎ ((text ≡ lined Long) × IfSome rest (BeginsOpen (line_limit + 1)))
+IsClosing finish.WriteFault rest text = (text ≡ []) ⊎ ((text ≡ lined Long) × IfSome rest (BeginsUnended (line_limit + 1)))
 IsClosing finish.Ended rest text = text ≡ []
 IsClosing (finish.Cut left) rest text = text ≡ []
 IsClosing finish.Spent rest text = text ≡ []

@@ -1,4 +1,4 @@
-ghost use Rattle.std.specs.Prelude.{◌≡◌, ◌+◌, ◌-◌, ◌<◌, ◌≤◌, ◌^◌, ◌⊎◌, true, ℕ, Err, IfOk, OnOk, OnErr, length};
+ghost use Rattle.std.specs.Prelude.{◌≡◌, ◌+◌, ◌-◌, ◌<◌, ◌≤◌, ◌^◌, ◌⊎◌, [], true, ℕ, Err, IfOk, OnOk, OnErr, length};
 ghost use Rattle.std.specs.Io.KnownBytes.{prepend_known};
 ghost use Rattle.sx_base.specs.Moments.{greatest_moment};
 ghost use Rattle.sx_call.specs.declared.call.Call.TheVariants as Call;
@@ -6,7 +6,7 @@ ghost use Rattle.sx_spec.specs.Account.{session_of};
 ghost use Rattle.sx_spec.specs.History.{is_of_caller, wants};
 ghost use Rattle.sx_spec.specs.Step.{replay, step};
 ghost use Rattle.sx_smb_door.specs.Conversation.{Outcome, Speaker, MayTurn, history_after, answer_of, moments_of, tally_after, entry_of, start_entry, end_entry, with_entry, next_session, full_of, Side, Served, Conversation};
-ghost use Rattle.sx_smb_door.specs.Asking.{IsLive, IsAsked, IsAnswered, noted_stop};
+ghost use Rattle.sx_smb_door.specs.Asking.{IsLive, IsAsked, IsAnswered, noted_stop, no_tally};
 ghost use Rattle.sx_smb_door.specs.SessionLines.{has_line, is_printed};
 ghost use Rattle.sx_smb_door.specs.Spelling.{is_session_call};
 
@@ -164,5 +164,51 @@ fn answer_line<C: Clock>(
         }
         Ok(None) => LineAnswer::NotBuilt,
         Ok(Some(call)) => answer_call(book, party, clock, tally, call),
+    }
+}
+
+/// Answers the lines of a link until no more are given, and says how they ended.
+fn serve_lines<L: Link, C: Clock>(
+    alloc: Global,
+    book: &mut Book,
+    party: Party,
+    share: &ShareName,
+    link: &mut L,
+    clock: &mut C,
+    reader: &mut LineReader,
+    tally: &mut Tally,
+) -> ConnEnd
+    requires live { IsLive book.old.entries party.who party.session }
+    requires reader { (reader.old.held ≡ []) × (reader.old.taken ≡ 0) }
+    requires tally { tally.old ≡ no_tally }
+    ensures served { Served (record { who = party.who; session = party.session; share = share.now; limit = book.old.limit }) reader.old.budget C.ticks (L.wrote link.old) (L.wrote link.new)
+        (record { left = L.left link.old; reads = L.read_count link.old; writes = L.write_count link.old; entries = book.old.entries; clock = clock.old })
+        (record { left = L.left link.new; reads = L.read_count link.new; writes = L.write_count link.new; entries = book.new.entries; clock = clock.new }) tally.new result reader.new.taken }
+    ensures live { IsLive book.new.entries party.who party.session }
+    ensures limit { book.new.limit ≡ book.old.limit }
+    ensures within { reader.new.taken + length reader.new.held ≤ reader.old.budget }
+    ensures calls { L.calls link.old link.new }
+{
+    loop {
+        match reader.next(link) {
+            NextLine::Line(line) => {
+                // Each call that was asked took a byte or more, so that their count fits as the bytes' does.
+                let _taken = reader.taken();
+                let answer = answer_line(alloc, book, party, share, clock, tally, line.as_slice());
+                match print_line(link, &answer) {
+                    Ok(()) => {}
+                    Err(_) => return ConnEnd::WriteFault,
+                }
+            }
+            NextLine::Long { at } => return match print_line(link, &LineAnswer::Long) {
+                Ok(()) => ConnEnd::Closed { at: Some(at) },
+                Err(_) => ConnEnd::WriteFault,
+            },
+            NextLine::End => return ConnEnd::Ended,
+            NextLine::Cut { left } => return ConnEnd::Cut { left },
+            NextLine::Spent => return ConnEnd::Spent,
+            NextLine::ReadFault => return ConnEnd::ReadFault,
+            NextLine::NoMemory => return ConnEnd::NoMemory,
+        }
     }
 }

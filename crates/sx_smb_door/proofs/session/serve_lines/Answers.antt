@@ -1,0 +1,108 @@
+use Rattle.std.proofs.Common.{◌≡◌, ℕ, ◌≤◌, ◌-◌, List, [], ◌++◌, Some, Option, inl, inr, refl, sym, ap, ◌∙◌, subst, arith, length}
+use Rattle.std.specs.Prelude.{IfSome}
+use Rattle.std.specs.Io.KnownBytes.{prepend_known, Consumes}
+use Rattle.std.proofs.KnownBytes.{prepend_known-nil}
+use Rattle.sx_book.specs.declared.report.ConnEnd.{ConnEnd}
+use Rattle.sx_book.specs.declared.report.ConnEnd.TheVariants as finish
+use Rattle.sx_spec.specs.History.{History}
+use Rattle.sx_smb_door.specs.Asking.{IsLive, IsAnswered}
+use Rattle.sx_smb_door.specs.Conversation.{Speaker, Side, answers_to, HasText}
+use Rattle.sx_smb_door.specs.Limits.{line_limit}
+use Rattle.sx_smb_door.specs.Lines.{stream, ended, BeginsUnended}
+use Rattle.sx_smb_door.specs.SessionLines.{lined}
+use Rattle.sx_smb_door.specs.declared.answer.LineAnswer.TheVariants.{Long}
+use Rattle.sx_smb_door.specs.declared.tally.Tally.{Tally}
+use Rattle.sx_smb_door.proofs.Turns.{text_kept, text_more, prefix_behind, asked_after}
+use Rattle.sx_smb_door.proofs.Ends.{run_none, run_more, run_fails, served_by, text_end, prefix_end}
+use Rattle.sx_smb_door.proofs.session.serve_lines.Goals as goal
+
+pub loop-line-init : goal.loop-line-init
+loop-line-init g c =
+    let w : Speaker = record { who = c.args.party.who; session = c.args.party.session; share = c.args.share.now; limit = c.args.book.now.limit } in
+    record {
+      run = run_none w g.C.Clock.ticks (stream c.args.reader.now (g.L.Source.left c.args.link.now)) c.args.book.now.entries c.args.clock.now c.args.tally.now c.args.reader.now.taken (g.L.Sink.wrote c.args.link.now) c.requires.tally c.requires.reader.1;
+      live = c.requires.live;
+      limit = refl;
+      budget = refl;
+      asked = omega (arith, ap (λ (t : Tally). t.asked) c.requires.tally);
+      reads = omega arith;
+      writes = omega arith;
+      calls = g.met.L.Link.calls_none c.args.link.now;
+    }
+
+pub loop-line-preserved : goal.loop-line-preserved
+loop-line-preserved g c =
+    let l = c.loop-line in
+    let inv = l.invariant in
+    let w : Speaker = record { who = c.args.party.who; session = c.args.party.session; share = c.args.share.now; limit = c.args.book.now.limit } in
+    let P : List ℕ → ℕ → Type 0 = λ line n. IsAnswered (record { who = c.args.party.who; session = c.args.party.session; share = c.args.share.now; limit = n }) g.C.Clock.ticks line l.book c.answer_line-answer.new.book l.clock c.answer_line-answer.new.clock l.tally c.answer_line-answer.new.tally c.answer_line-answer.result in
+    let a = subst (P c.in-Line.line) inv.limit (subst (λ (line : List ℕ). P line l.book.limit) c.as_slice.ensures c.answer_line-answer.ensures) in
+    let given = c.in-Line.ensures.answered in
+    let reads = g.met.L.Link.read_keeps l.link c.next.new.source c.next.ensures.step in
+    let puts = g.met.L.Link.put_keeps c.next.new.source c.print_line.new.sink c.in-Ok.ensures.step in
+    let bytes = subst (λ (x : Option (List ℕ)). Consumes (stream l.reader (g.L.Source.left l.link)) (stream c.next.new.self x) (ended c.in-Line.line)) (sym puts.rest) given.bytes in
+    record {
+      run = run_more w g.C.Clock.ticks (stream c.args.reader.now (g.L.Source.left c.args.link.now)) (stream l.reader (g.L.Source.left l.link)) (stream c.next.new.self (g.L.Source.left c.print_line.new.sink))
+          c.args.book.now.entries l.book c.answer_line-answer.new.book c.args.clock.now l.clock c.answer_line-answer.new.clock l.tally c.answer_line-answer.new.tally l.reader.taken c.next.new.self.taken
+          (g.L.Sink.wrote c.args.link.now) (g.L.Sink.wrote l.link) (g.L.Sink.wrote c.next.new.source) (g.L.Sink.wrote c.print_line.new.sink) c.in-Line.line c.answer_line-answer.result
+          inv.run given.one given.short bytes given.taken a (λ m. (reads.written m).0) c.in-Ok.ensures.ok.behind;
+      live = a.live;
+      limit = ap (λ (h : History). h.limit) a.history ∙ inv.limit;
+      budget = given.budget ∙ inv.budget;
+      asked = omega (arith, inv.asked, given.taken, ap (λ (t : Tally). t.asked) a.tallied, asked_after w l.book.entries l.tally a.outcome);
+      reads = omega (arith, inv.reads, c.next.ensures.later, puts.faults);
+      writes = omega (arith, inv.writes, reads.faults, c.in-Ok.ensures.cause.later);
+      calls = g.met.L.Link.calls_more c.args.link.now c.next.new.source c.print_line.new.sink
+          (g.met.L.Link.calls_more c.args.link.now l.link c.next.new.source inv.calls (g.met.L.Link.read_calls l.link c.next.new.source c.next.ensures.step))
+          (g.met.L.Link.put_calls c.next.new.source c.print_line.new.sink c.in-Ok.ensures.step);
+    }
+
+-- the stream at the start is the link's
+left_first : (held : List ℕ) (left : Option (List ℕ)) → held ≡ [] → prepend_known held left ≡ left
+left_first held left e = ap (λ (h : List ℕ). prepend_known h left) e ∙ prepend_known-nil left
+
+pub returns-in-Err-clause-served : goal.returns-in-Err-clause-served
+returns-in-Err-clause-served g c =
+    let l = c.loop-line in
+    let inv = l.invariant in
+    let w : Speaker = record { who = c.args.party.who; session = c.args.party.session; share = c.args.share.now; limit = c.args.book.now.limit } in
+    let P : List ℕ → ℕ → Type 0 = λ line n. IsAnswered (record { who = c.args.party.who; session = c.args.party.session; share = c.args.share.now; limit = n }) g.C.Clock.ticks line l.book c.answer_line-answer.new.book l.clock c.answer_line-answer.new.clock l.tally c.answer_line-answer.new.tally c.answer_line-answer.result in
+    let a = subst (P c.in-Line.line) inv.limit (subst (λ (line : List ℕ). P line l.book.limit) c.as_slice.ensures c.answer_line-answer.ensures) in
+    let given = c.in-Line.ensures.answered in
+    let reads = g.met.L.Link.read_keeps l.link c.next.new.source c.next.ensures.step in
+    let run = run_fails w g.C.Clock.ticks (stream c.args.reader.now (g.L.Source.left c.args.link.now)) (stream l.reader (g.L.Source.left l.link)) (stream c.next.new.self (g.L.Source.left c.next.new.source))
+    c.args.book.now.entries l.book c.answer_line-answer.new.book c.args.clock.now l.clock c.answer_line-answer.new.clock l.tally c.answer_line-answer.new.tally l.reader.taken c.next.new.self.taken
+    (g.L.Sink.wrote c.args.link.now) (g.L.Sink.wrote l.link) (g.L.Sink.wrote c.next.new.source) (g.L.Sink.wrote c.print_line.new.sink) c.in-Line.line c.answer_line-answer.result
+    inv.run given.one given.short given.bytes given.taken a (λ m. (reads.written m).0) c.in-Err.ensures.err.behind in
+    served_by w c.args.reader.now.budget g.C.Clock.ticks (g.L.Sink.wrote c.args.link.now) (g.L.Sink.wrote c.print_line.new.sink) _ _ c.answer_line-answer.new.tally finish.WriteFault _ _ c.next.new.self.taken c.next.new.self.taken []
+    run.0 (left_first c.args.reader.now.held (g.L.Source.left c.args.link.now) c.requires.reader.0) refl (inl refl)
+    (prefix_end (g.L.Sink.wrote c.args.link.now) (g.L.Sink.wrote c.print_line.new.sink) (answers_to w c.args.book.now.entries run.0.turns) run.1)
+    (omega (arith, inv.writes, reads.faults, c.in-Err.ensures.cause.failed))
+
+pub returns-in-Ok-print_line-clause-served : goal.returns-in-Ok-print_line-clause-served
+returns-in-Ok-print_line-clause-served g c =
+    let l = c.loop-line in
+    let inv = l.invariant in
+    let w : Speaker = record { who = c.args.party.who; session = c.args.party.session; share = c.args.share.now; limit = c.args.book.now.limit } in
+    let given = c.in-Long.ensures.answered in
+    let reads = g.met.L.Link.read_keeps l.link c.next.new.source c.next.ensures.step in
+    let said = answers_to w c.args.book.now.entries inv.run.0.turns in
+    served_by w c.args.reader.now.budget g.C.Clock.ticks (g.L.Sink.wrote c.args.link.now) (g.L.Sink.wrote c.print_line-in-Long.new.sink) _ _ l.tally (finish.Closed (Some c.in-Long.at)) _ _ l.reader.taken c.next.new.self.taken (lined Long)
+    inv.run.0 (left_first c.args.reader.now.held (g.L.Source.left c.args.link.now) c.requires.reader.0) given.0.taken refl
+    (text_more (g.L.Sink.wrote c.args.link.now) (g.L.Sink.wrote c.next.new.source) (g.L.Sink.wrote c.print_line-in-Long.new.sink) said (lined Long)
+    (text_kept (g.L.Sink.wrote c.args.link.now) (g.L.Sink.wrote l.link) (g.L.Sink.wrote c.next.new.source) said inv.run.1 (λ m. (reads.written m).0)) c.in-Ok-print_line.ensures.ok.behind)
+    (given.1.0, given.1.2)
+
+pub returns-in-Err-print_line-clause-served : goal.returns-in-Err-print_line-clause-served
+returns-in-Err-print_line-clause-served g c =
+    let l = c.loop-line in
+    let inv = l.invariant in
+    let w : Speaker = record { who = c.args.party.who; session = c.args.party.session; share = c.args.share.now; limit = c.args.book.now.limit } in
+    let given = c.in-Long.ensures.answered in
+    let reads = g.met.L.Link.read_keeps l.link c.next.new.source c.next.ensures.step in
+    let said = answers_to w c.args.book.now.entries inv.run.0.turns in
+    served_by w c.args.reader.now.budget g.C.Clock.ticks (g.L.Sink.wrote c.args.link.now) (g.L.Sink.wrote c.print_line-in-Long.new.sink) _ _ l.tally finish.WriteFault _ _ l.reader.taken c.next.new.self.taken (lined Long)
+    inv.run.0 (left_first c.args.reader.now.held (g.L.Source.left c.args.link.now) c.requires.reader.0) given.0.taken (inr (refl, given.1.0))
+    (prefix_behind (g.L.Sink.wrote c.args.link.now) (g.L.Sink.wrote c.next.new.source) (g.L.Sink.wrote c.print_line-in-Long.new.sink) said (lined Long)
+    (text_kept (g.L.Sink.wrote c.args.link.now) (g.L.Sink.wrote l.link) (g.L.Sink.wrote c.next.new.source) said inv.run.1 (λ m. (reads.written m).0)) c.in-Err-print_line.ensures.err.behind)
+    (omega (arith, inv.writes, reads.faults, c.in-Err-print_line.ensures.cause.failed))
