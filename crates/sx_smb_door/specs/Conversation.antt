@@ -222,24 +222,24 @@ pub record Session {C : Type 0} (who limit peer budget : ℕ) (share : List ℕ)
   pub began : C
   pub start : ticks old.clock started began
   pub room : length old.entries + wants (replay old.entries) (Start peer) ≤ limit
-  pub ns : List Noted
-  pub opened : ns ≡ with_entry old.entries (start_entry who old.entries started peer)
-  pub last : Side C
+  pub opened : List Noted
+  pub opened_is : opened ≡ with_entry old.entries (start_entry who old.entries started peer)
+  pub answered : List Noted
+  pub paused : C
   pub tally : Tally
   pub end : ConnEnd
   pub taken : ℕ
-  pub lines : Served (record { who = who; session = next_session old.entries; share = share; limit = limit }) budget ticks wrote wrote' (record old { entries = ns; clock = began }) last tally end taken
+  pub lines : Served (record { who = who; session = next_session old.entries; share = share; limit = limit }) budget ticks wrote wrote' (record old { entries = opened; clock = began }) (record new { entries = answered; clock = paused }) tally end taken
   pub finished : ℕ
-  pub stop : ticks last.clock finished new.clock
-  pub closed : new.entries ≡ with_entry last.entries (end_entry who (next_session old.entries) last.entries finished)
+  pub stop : ticks paused finished new.clock
+  pub closed : new.entries ≡ with_entry answered (end_entry who (next_session old.entries) answered finished)
   pub report_is : report ≡ report_of end taken budget tally
 
 -- a session whose start was refused: it read and wrote nothing, and the history is as it was
-pub record Unstarted {C : Type 0} (limit : ℕ) (peer : ℕ) (ticks : C → ℕ → C → Type 0) (wrote wrote' : List ℕ → Type 0) (old new : Side C) (report : ConnReport) : Type 0 where
+pub record Unstarted {C : Type 0} (limit peer : ℕ) (ticks : C → ℕ → C → Type 0) (wrote wrote' : List ℕ → Type 0) (old new : Side C) (report : ConnReport) : Type 0 where
   pub asked : ℕ
   pub start : ticks old.clock asked new.clock
-  pub left : new.left ≡ old.left
-  pub history : new.entries ≡ old.entries
+  pub kept : new ≡ record old { clock = new.clock }
   pub written : HasText wrote wrote' []
   pub cause : (report ≡ unstarted finish.NoMemory) ⊎ ((report ≡ unstarted (finish.Full (full_of limit old.entries))) × (limit < length old.entries + wants (replay old.entries) (Start peer)))
 

@@ -10,6 +10,8 @@ mod tally;
 pub use answer::{LineAnswer, print_line};
 pub use lines::{LINE_LIMIT, LineReader, NextLine};
 pub use parse::call_of_line;
+pub use session::serve_session;
+pub use tally::Tally;
 
 #[cfg(test)]
 mod tests;

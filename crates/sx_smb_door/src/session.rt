@@ -5,7 +5,7 @@ ghost use Rattle.sx_call.specs.declared.call.Call.TheVariants as Call;
 ghost use Rattle.sx_spec.specs.Account.{session_of};
 ghost use Rattle.sx_spec.specs.History.{is_of_caller, wants};
 ghost use Rattle.sx_spec.specs.Step.{replay, step};
-ghost use Rattle.sx_smb_door.specs.Conversation.{Outcome, Speaker, MayTurn, history_after, answer_of, moments_of, tally_after, entry_of, start_entry, end_entry, with_entry, next_session, full_of, Side, Served, Conversation};
+ghost use Rattle.sx_smb_door.specs.Conversation.{Outcome, Speaker, MayTurn, history_after, answer_of, moments_of, tally_after, entry_of, start_entry, end_entry, with_entry, next_session, full_of, report_of, taken_at, unstarted as unstarted_report, Side, Served, Conversation};
 ghost use Rattle.sx_smb_door.specs.Asking.{IsLive, IsAsked, IsAnswered, noted_stop, no_tally};
 ghost use Rattle.sx_smb_door.specs.SessionLines.{has_line, is_printed};
 ghost use Rattle.sx_smb_door.specs.Spelling.{is_session_call};
@@ -211,4 +211,88 @@ fn serve_lines<L: Link, C: Clock>(
             NextLine::NoMemory => return ConnEnd::NoMemory,
         }
     }
+}
+
+/// The report of a session whose lines ended so.
+fn report(end: ConnEnd, taken: u64, budget: u64, tally: Tally) -> ConnReport
+    requires { taken_at end taken budget < 2 ^ 64 }
+    ensures { result ≡ report_of end taken budget tally }
+{
+    let taken = match end {
+        ConnEnd::Cut { left } => taken + left,
+        ConnEnd::Spent => budget,
+        _ => taken,
+    };
+    ConnReport {
+        end,
+        taken,
+        asked: tally.asked,
+        full: tally.full,
+        starved: tally.starved,
+    }
+}
+
+/// The report of a session that was not started.
+fn unstarted(end: ConnEnd) -> ConnReport
+    ensures { result ≡ unstarted_report end }
+{
+    ConnReport {
+        end,
+        taken: 0,
+        asked: 0,
+        full: None,
+        starved: false,
+    }
+}
+
+/// Serves one session on a share: starts it, answers its lines until no more are given or the budget of bytes is spent,
+/// and ends it.
+///
+/// Where the start is refused, no byte is read or written: the report's end is then `Full` or `NoMemory`. `WriteFault` and
+/// `ReadFault` come only where the link's counts of failures rose. Every session that was started is ended.
+pub fn serve_session<L: Link, C: Clock>(
+    alloc: Global,
+    book: &mut Book,
+    who: u32,
+    share: &ShareName,
+    link: &mut L,
+    clock: &mut C,
+    budget: u64,
+) -> ConnReport
+    ensures conversation { Conversation who book.old.limit (L.peer_of link.old) budget share.now C.ticks (L.wrote link.old) (L.wrote link.new)
+        (record { left = L.left link.old; reads = L.read_count link.old; writes = L.write_count link.old; entries = book.old.entries; clock = clock.old })
+        (record { left = L.left link.new; reads = L.read_count link.new; writes = L.write_count link.new; entries = book.new.entries; clock = clock.new }) result }
+    ensures limit { book.new.limit ≡ book.old.limit }
+    ensures calls { L.calls link.old link.new }
+{
+    let peer = link.peer();
+    let now = clock.now();
+    let session = match start(book, who, now, peer) {
+        Ok(session) => session,
+        Err(Stop::NoMemory) => return unstarted(ConnEnd::NoMemory),
+        Err(Stop::HistoryFull {
+            entries,
+            sessions,
+            limit,
+        }) => {
+            return unstarted(ConnEnd::Full(Full {
+                entries,
+                sessions,
+                limit,
+            }));
+        }
+    };
+    let party = Party { who, session };
+    let mut reader = LineReader::new(alloc, budget);
+    let mut tally = Tally {
+        asked: 0,
+        full: None,
+        starved: false,
+    };
+    let finish = serve_lines(
+        alloc, book, party, share, link, clock, &mut reader, &mut tally,
+    );
+    let now = clock.now();
+    end(book, party, now);
+    report(finish, reader.taken(), budget, tally)
 }
