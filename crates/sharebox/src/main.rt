@@ -1,0 +1,28 @@
+//! A file share service, which serves a session over its input and output.
+#![tactic(auto)]
+
+mod run;
+mod words;
+
+use std::env;
+use std::io;
+use std::process::ExitCode;
+use sx_base::{Input, Output, SystemClock};
+
+/// The status where the words can't be had.
+const NO_WORDS: u8 = 1;
+
+fn main(rt: HostRuntime) -> ExitCode {
+    let alloc = rt.alloc();
+    let Ok(args) = env::args(&rt) else {
+        return ExitCode::from(NO_WORDS);
+    };
+    let Ok(words) = args.skip(1).collect::<Vec<String>>(alloc) else {
+        return ExitCode::from(NO_WORDS);
+    };
+    let mut input = Input::new(rt.reader());
+    let mut out = Output::new(io::writer(&rt));
+    let mut clock = SystemClock::new(rt);
+    let status = run::run(alloc, words.as_slice(), &mut input, &mut out, &mut clock);
+    ExitCode::from(status)
+}
