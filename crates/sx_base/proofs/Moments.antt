@@ -1,5 +1,5 @@
 -- One moment after another.
-use Rattle.std.proofs.Common.{ℕ, ◌≡◌, List, [], ◌∷◌, ◌++◌, refl, sym, subst}
+use Rattle.std.proofs.Common.{ℕ, List, [], ◌∷◌, ◌++◌, refl, sym, subst}
 use Rattle.sx_base.specs.Told.{Told}
 
 -- the moments of one run, and then those of the next

@@ -20,3 +20,6 @@ pub use printer::{Fragment, print};
 pub use sink::Sink;
 pub use source::Source;
 pub use system::{Input, Output, SystemClock};
+
+#[cfg(test)]
+mod tests;

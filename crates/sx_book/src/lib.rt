@@ -13,3 +13,6 @@ pub use book::Book;
 pub use report::{ConnEnd, ConnReport, Full};
 pub use state::State;
 pub use sx_call::Stop;
+
+#[cfg(test)]
+mod tests;

@@ -4,6 +4,7 @@
 mod call;
 mod held;
 mod reply;
+mod view;
 
 pub use call::{Call, Entry, How, Noted};
 pub use held::{Live, Open};
@@ -11,4 +12,5 @@ pub use reply::{Fate, Refusal, Reply, SmbReply, Stop};
 pub use sx_guard::{Access, HandleId, Mode};
 pub use view::{Piece, Update, View};
 
-mod view;
+#[cfg(test)]
+mod tests;

@@ -1,5 +1,5 @@
 -- What a share name, a part of a path and a path is, and when two names are the same.
-use Rattle.std.specs.Prelude.{ℕ, ◌+◌, ◌-◌, ◌==◌, ◌&&◌, ◌||◌, Bool, not, nat_le, nat_lt, bytes_eq, codes, List, length, chars, encode_utf8_all, slice_index, sum, map}
+use Rattle.std.specs.Prelude.{ℕ, ◌+◌, ◌-◌, ◌==◌, ◌&&◌, ◌||◌, Bool, not, nat_le, bytes_eq, codes, List, length, chars, encode_utf8_all, slice_index, sum, map}
 use Rattle.std.specs.List.{list_all, list_any, range_with_len}
 use Rattle.std.specs.Str.{is_utf8}
 use Rattle.caseless.specs.Caseless.{default_case_fold}

@@ -12,3 +12,6 @@ pub use path::Path;
 pub use quota::Quota;
 pub use share::ShareName;
 pub use unnamed::Unnamed;
+
+#[cfg(test)]
+mod tests;

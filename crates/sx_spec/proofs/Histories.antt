@@ -172,6 +172,6 @@ pub kept_more : (state new : Account) (limit : ℕ) (ns : List Noted) (n : Noted
     → new ≡ (step state n.entry).0 → n.refused ≡ is_refused (step state n.entry).1 → length ns + wants state n.entry.call ≤ limit → IsKept new limit (ns ++ n ∷ [])
 kept_more state new limit ns n is came legal may done marked room =
     let P : Account → Type 0 = λ a. (a.came ≡ length ns) → MayCome a (last_moment ns) n.entry → new ≡ (step a n.entry).0 → n.refused ≡ is_refused (step a n.entry).1
-        → length ns + wants a n.entry.call ≤ limit → IsKept new limit (ns ++ n ∷ []) in
+    → length ns + wants a n.entry.call ≤ limit → IsKept new limit (ns ++ n ∷ []) in
     let Q : Account → Type 0 = λ a. IsKept a limit (ns ++ n ∷ []) in
     subst P (sym is) (λ c m d k r. subst Q (sym d) (kept_at limit ns n c legal m k r)) came may done marked room

@@ -1,6 +1,5 @@
 -- A file's bytes, and what a write makes of them.
 use Rattle.std.specs.Prelude.{ℕ, ◌+◌, ◌-◌, Bool, true, false, List, [], ◌++◌, length, take, drop, replicate}
-use Rattle.sx_tree.specs.declared.node.FileBody.{FileBody}
 use Rattle.sx_tree.specs.declared.node.Kind.{Kind}
 use Rattle.sx_tree.specs.declared.node.Kind.TheVariants.{Directory, File}
 

@@ -9,3 +9,6 @@ mod tree;
 pub use node::{FileBody, Found, Kind, Node};
 pub use share::Share;
 pub use tree::Tree;
+
+#[cfg(test)]
+mod tests;

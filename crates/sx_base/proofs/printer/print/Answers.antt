@@ -1,4 +1,4 @@
-use Rattle.std.proofs.Common.{ℕ, ◌≡◌, [], ◌++◌, ◌+◌, drop, List, get_or, arith, subst}
+use Rattle.std.proofs.Common.{ℕ, [], ◌+◌, drop, List, get_or, arith, subst}
 use Rattle.std.specs.List.{flat_map}
 use Rattle.sx_base.specs.Fragments.{text_of}
 use Rattle.sx_base.specs.declared.printer.Fragment.{Fragment}

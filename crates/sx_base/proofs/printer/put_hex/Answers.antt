@@ -1,4 +1,4 @@
-use Rattle.std.proofs.Common.{ℕ, ◌≡◌, [], ◌∷◌, ◌++◌, ◌+◌, drop, List, get_or, arith, subst}
+use Rattle.std.proofs.Common.{ℕ, [], ◌∷◌, ◌+◌, drop, List, get_or, arith, subst}
 use Rattle.hex.specs.Hex.{encode_lower}
 use Rattle.sx_base.proofs.Printing.{Printed, printed_more, printed_prefix, printed_all, encode_rest, encode_past}
 use Rattle.sx_base.proofs.printer.put_hex.Goals as goal

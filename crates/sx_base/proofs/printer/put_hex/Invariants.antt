@@ -1,4 +1,4 @@
-use Rattle.std.proofs.Common.{ℕ, ◌≤◌, drop}
+use Rattle.std.proofs.Common.{◌≤◌, drop}
 use Rattle.hex.specs.Hex.{encode_lower}
 use Rattle.sx_base.proofs.Printing.{Printed}
 use Rattle.sx_base.proofs.printer.put_hex.Given as goal

@@ -1,0 +1,32 @@
+//! The bytes that calls and replies carry, with ample memory.
+use super::*;
+use std::test::Fail;
+use sx_names::{Quota, ShareName};
+
+/// A piece, its copy, its place in a file, and a view.
+#[test]
+fn pieces_and_views(rt: HostRuntime) -> Result<(), Fail> {
+    let bytes = vec![in rt.alloc(); b'a', b'b'];
+    let Ok(bytes) = bytes else {
+        panic!(rt; "no memory");
+    };
+    assert!(rt; 1 <= bytes.len() && bytes.len() <= 4_194_304);
+    let piece = Piece::of(bytes);
+    let copy = piece.copy(rt.alloc())?;
+    assert_eq!(rt; copy.bytes(), b"ab".as_slice());
+    assert!(rt; copy.bytes().len() == 2);
+    let update = Update::of(7, copy);
+    assert_eq!(rt; update.at(), 7);
+    assert_eq!(rt; update.bytes(), b"ab".as_slice());
+    let view = View::copy_of(rt.alloc(), update.bytes())?;
+    assert_eq!(rt; view.bytes(), b"ab".as_slice());
+    let Ok(share) = ShareName::read(rt.alloc(), b"files") else {
+        panic!(rt; "no name");
+    };
+    let call = Call::CreateShare {
+        share,
+        quota: Quota::of(1),
+    };
+    call.keeps_limits();
+    Ok(())
+}
