@@ -1,5 +1,5 @@
 -- What the program does by its words, and the statuses that it ends with.
-use Rattle.std.specs.Prelude.{ℕ, codes, ◌+◌, ◌<◌, ◌≤◌, ◌≡◌, ◌^◌, ◌⊎◌, true, List, [], ◌∷◌, Bool, false, Option, Some, None}
+use Rattle.std.specs.Prelude.{ℕ, codes, ◌≡◌, ◌^◌, ◌⊎◌, true, List, [], ◌∷◌, Bool, false, Option, Some, None}
 use Rattle.sx_base.specs.Causes.{Rose}
 use Rattle.sx_call.specs.declared.call.Call.TheVariants.{CreateShare}
 use Rattle.sx_call.specs.declared.call.Entry.{Entry}

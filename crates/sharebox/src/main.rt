@@ -2,11 +2,12 @@
 #![tactic(auto)]
 
 mod run;
+#[cfg(test)]
+mod tests;
 mod words;
 
-use std::env;
-use std::io;
 use std::process::ExitCode;
+use std::{env, io};
 use sx_base::{Input, Output, SystemClock};
 
 /// The status where the words can't be had.

@@ -15,11 +15,17 @@ use sx_smb_door::serve_session;
 
 /// The statuses of the program.
 const DONE: u8 = 0;
+
 const WORDS_REFUSED: u8 = 1;
+
 const INPUT_REFUSED: u8 = 2;
+
 const READ_FAULT: u8 = 3;
+
 const WRITE_FAULT: u8 = 4;
+
 const NO_MEMORY: u8 = 5;
+
 const HISTORY_FULL: u8 = 7;
 
 /// How many places the history has.
@@ -41,12 +47,7 @@ const LOOPBACK: u32 = 0x7f00_0001;
 const INPUT_BUDGET: u64 = 1 << 40;
 
 /// Makes the share of a session in a history without entries.
-fn create_share(
-    alloc: Global,
-    book: &mut Book,
-    share: &ShareName,
-    now: u64,
-) -> Result<(), NoMemory>
+fn create_share(alloc: Global, book: &mut Book, share: &ShareName, now: u64) -> Result<(), NoMemory>
     requires clock { now ≤ greatest_moment }
     requires book { book.old ≡ record { entries = []; limit = history_limit } }
     ensures ok { OnOk result (book.new ≡ record { entries = with_entry [] (creation share.now now); limit = history_limit }) }
@@ -115,7 +116,13 @@ fn serve<S: Source, K: Sink, C: Clock>(
         peer: LOOPBACK,
     };
     serve_session(
-        alloc, book, SESSION_CALLER, share, &mut link, clock, INPUT_BUDGET,
+        alloc,
+        book,
+        SESSION_CALLER,
+        share,
+        &mut link,
+        clock,
+        INPUT_BUDGET,
     )
 }
 

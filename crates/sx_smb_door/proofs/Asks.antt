@@ -1,5 +1,5 @@
 -- What a session's calls leave of the session, and which replies they get.
-use Rattle.std.proofs.Common.{ℕ, ◌+◌, ◌<◌, ◌≤◌, ◌≡◌, ◌==◌, Bool, true, false, cond, List, [], ◌∷◌, ◌++◌, length, Option, Some, None, refl, ap, sym, ◌∙◌, subst, arith}
+use Rattle.std.proofs.Common.{ℕ, ◌+◌, ◌≡◌, ◌==◌, Bool, true, false, cond, List, [], ◌∷◌, ◌++◌, Option, Some, None, refl, ap, sym, ◌∙◌, subst, arith}
 use Rattle.std.specs.List.{find}
 use Rattle.sx_base.specs.Entries.{change}
 use Rattle.sx_call.specs.Limits.{Placed}
@@ -22,7 +22,7 @@ use Rattle.sx_tree.specs.declared.node.Found.TheVariants as found
 use Rattle.sx_tree.specs.declared.node.Node.{Node}
 use Rattle.sx_tree.specs.Files.{is_directory}
 use Rattle.sx_spec.specs.Account.{Account, empty, is_session, session_of, open_of, place_of, node_in}
-use Rattle.sx_spec.specs.FirstRefusal.{first, first_open, first_of, share_check, parent_check, node_check, node_found, kind_check, kind_found, file_wanted, handle_check}
+use Rattle.sx_spec.specs.FirstRefusal.{first, first_open, first_of, share_check, parent_check, node_found, kind_found, file_wanted, handle_check}
 use Rattle.sx_spec.specs.History.{History, is_of_caller, is_in_session, is_refused}
 use Rattle.sx_spec.specs.Whole.{IsWhole, IsLive as IsLiveSession}
 use Rattle.std.specs.List.{AllByRecursion}

@@ -1,5 +1,5 @@
 -- One line more in a session.
-use Rattle.std.proofs.Common.{ℕ, ◌+◌, ◌≤◌, ◌≡◌, ◌⊎◌, inl, inr, ⊎_elim, true, false, List, [], ◌∷◌, ◌++◌, length, Option, Some, None, refl, sym, ap, ◌∙◌, subst, append_assoc, arith, length-append}
+use Rattle.std.proofs.Common.{ℕ, ◌+◌, ◌≤◌, ◌≡◌, ◌⊎◌, ⊎_elim, List, [], ◌∷◌, ◌++◌, length, Option, Some, refl, sym, ap, ◌∙◌, subst, append_assoc, arith, length-append}
 use Rattle.std.specs.List.{flat_map}
 use Rattle.std.specs.Io.KnownBytes.{Consumes}
 use Rattle.std.proofs.lemmas.List.{append-nil}
@@ -10,7 +10,6 @@ use Rattle.sx_base.proofs.Streams.{consumes_more, consumes_none}
 use Rattle.sx_call.specs.declared.call.Call.{Call}
 use Rattle.sx_call.specs.declared.call.Noted.{Noted}
 use Rattle.sx_spec.specs.History.{History}
-use Rattle.sx_book.specs.declared.report.ConnEnd.{ConnEnd}
 use Rattle.sx_smb_door.specs.Asking.{no_tally, IsAsked, IsBooked, IsCrowded, IsStarved, IsAnswered}
 use Rattle.sx_smb_door.specs.Conversation.{Outcome, unbuilt, unread, booked, crowded, starved, Turn, Speaker, MayTurn, MayTurns, history_after, history_of, answer_of, answers_to, tally_after, tally_of, lines_of, moments_of, moments_told, HasText, HasPrefix}
 use Rattle.sx_smb_door.specs.Limits.{line_limit}

@@ -10,7 +10,6 @@ use Rattle.sx_call.specs.declared.call.Call.TheVariants.{Start, End}
 use Rattle.sx_call.specs.declared.call.Entry.{Entry}
 use Rattle.sx_call.specs.declared.call.Noted.{Noted}
 use Rattle.sx_call.specs.declared.reply.Stop.TheVariants as stop
-use Rattle.sx_spec.specs.Account.{Account}
 use Rattle.sx_spec.specs.History.{noted_at, wants, last_moment}
 use Rattle.sx_spec.specs.Step.{step, replay}
 use Rattle.sx_book.specs.declared.report.Full.{Full}

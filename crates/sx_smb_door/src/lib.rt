@@ -14,4 +14,6 @@ pub use session::serve_session;
 pub use tally::Tally;
 
 #[cfg(test)]
+mod session_tests;
+#[cfg(test)]
 mod tests;

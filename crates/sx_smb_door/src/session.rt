@@ -270,11 +270,13 @@ pub fn serve_session<L: Link, C: Clock>(
     let session = match start(book, who, now, peer) {
         Ok(session) => session,
         Err(Stop::NoMemory) => return unstarted(ConnEnd::NoMemory),
-        Err(Stop::HistoryFull {
-            entries,
-            sessions,
-            limit,
-        }) => {
+        Err(
+            Stop::HistoryFull {
+                entries,
+                sessions,
+                limit,
+            },
+        ) => {
             return unstarted(ConnEnd::Full(Full {
                 entries,
                 sessions,
@@ -290,7 +292,14 @@ pub fn serve_session<L: Link, C: Clock>(
         starved: false,
     };
     let finish = serve_lines(
-        alloc, book, party, share, link, clock, &mut reader, &mut tally,
+        alloc,
+        book,
+        party,
+        share,
+        link,
+        clock,
+        &mut reader,
+        &mut tally,
     );
     let now = clock.now();
     end(book, party, now);

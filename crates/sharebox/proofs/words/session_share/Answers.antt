@@ -1,8 +1,6 @@
-use Rattle.std.proofs.Common.{ℕ, List, [], ◌∷◌, ◌≡◌, IfOk, map, codes, ap, ◌∙◌, sym, subst}
-use Rattle.std.specs.Prelude.{IsErrOf}
+use Rattle.std.proofs.Common.{ℕ, List, [], ◌∷◌, ◌≡◌, map, codes, ap, ◌∙◌, sym}
 use Rattle.std.specs.String.{string_bytes}
 use Rattle.sx_names.specs.Names.{is_share_name}
-use Rattle.sharebox.specs.Command.{IsSession}
 use Rattle.sharebox.proofs.Spelled.{two_words, same_bytes, named_by, read_name}
 use Rattle.sharebox.proofs.words.session_share.Goals as goal
 

@@ -1,19 +1,16 @@
-use Rattle.std.proofs.Common.{◌≡◌, ℕ, ◌≤◌, ◌-◌, List, [], ◌++◌, Some, Option, inl, inr, refl, sym, ap, ◌∙◌, subst, arith, length}
-use Rattle.std.specs.Prelude.{IfSome}
+use Rattle.std.proofs.Common.{◌≡◌, ℕ, List, [], Some, Option, inl, inr, refl, sym, ap, ◌∙◌, subst, arith}
 use Rattle.std.specs.Io.KnownBytes.{prepend_known, Consumes}
 use Rattle.std.proofs.KnownBytes.{prepend_known-nil}
-use Rattle.sx_book.specs.declared.report.ConnEnd.{ConnEnd}
 use Rattle.sx_book.specs.declared.report.ConnEnd.TheVariants as finish
 use Rattle.sx_spec.specs.History.{History}
-use Rattle.sx_smb_door.specs.Asking.{IsLive, IsAnswered}
-use Rattle.sx_smb_door.specs.Conversation.{Speaker, Side, answers_to, HasText}
-use Rattle.sx_smb_door.specs.Limits.{line_limit}
-use Rattle.sx_smb_door.specs.Lines.{stream, ended, BeginsUnended}
+use Rattle.sx_smb_door.specs.Asking.{IsAnswered}
+use Rattle.sx_smb_door.specs.Conversation.{Speaker, answers_to}
+use Rattle.sx_smb_door.specs.Lines.{stream, ended}
 use Rattle.sx_smb_door.specs.SessionLines.{lined}
 use Rattle.sx_smb_door.specs.declared.answer.LineAnswer.TheVariants.{Long}
 use Rattle.sx_smb_door.specs.declared.tally.Tally.{Tally}
 use Rattle.sx_smb_door.proofs.Turns.{text_kept, text_more, prefix_behind, asked_after}
-use Rattle.sx_smb_door.proofs.Ends.{run_none, run_more, run_fails, served_by, text_end, prefix_end}
+use Rattle.sx_smb_door.proofs.Ends.{run_none, run_more, run_fails, served_by, prefix_end}
 use Rattle.sx_smb_door.proofs.session.serve_lines.Goals as goal
 
 pub loop-line-init : goal.loop-line-init

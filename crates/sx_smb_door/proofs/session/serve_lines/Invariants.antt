@@ -1,4 +1,4 @@
-use Rattle.std.proofs.Common.{ℕ, ◌+◌, ◌-◌, ◌≤◌, ◌≡◌, length}
+use Rattle.std.proofs.Common.{◌-◌, ◌≤◌, ◌≡◌}
 use Rattle.sx_smb_door.specs.Asking.{IsLive}
 use Rattle.sx_smb_door.specs.Conversation.{answers_to, HasText}
 use Rattle.sx_smb_door.specs.Lines.{stream}

@@ -1,0 +1,299 @@
+//! Sessions from their start to their end, by every way of ending, with ample memory.
+
+use super::*;
+use std::alloc::Global;
+use std::process::Abort;
+use std::test::Fail;
+use sx_base::{MemLink, MemSink, MemSource, StepClock};
+use sx_book::{Book, ConnEnd, ConnReport, Full};
+use sx_names::ShareName;
+
+/// No call fails.
+const NONE: u64 = 1_000_000;
+
+/// A session on a share that is absent: what it is given, and what comes of it.
+struct Row {
+    limit: u32,
+    budget: u64,
+    input: &'static [u8],
+    /// How many bytes a read gives.
+    chunk: usize,
+    /// Which read, and which put, fails.
+    read: u64,
+    put: u64,
+    out: &'static [u8],
+    end: ConnEnd,
+    taken: u64,
+    asked: u64,
+    full: Option<Full>,
+    entries: usize,
+}
+
+const ROWS: [Row; 13] = [
+    Row {
+        limit: 10,
+        budget: 1_000,
+        input: b"close 1\nopen data a.txt rw rwd existing file\n",
+        chunk: 7,
+        read: NONE,
+        put: NONE,
+        out: b"ERR INVALID_HANDLE 2 handle 1.1\nERR BAD_NETWORK_NAME 3 no share\n",
+        end: ConnEnd::Ended,
+        taken: 45,
+        asked: 2,
+        full: None,
+        entries: 4,
+    },
+    Row {
+        limit: 10,
+        budget: 1_000,
+        input: b"sing\n\n\xff\xfe\nclose 01\nclose 4294967296\nclose 99999999999999999999\n",
+        chunk: 100,
+        read: NONE,
+        put: NONE,
+        out: b"ERR NOT_BUILT\nERR NOT_BUILT\nERR NOT_BUILT\nERR NOT_BUILT\nERR NOT_BUILT\nERR NOT_BUILT\n",
+        end: ConnEnd::Ended,
+        taken: 62,
+        asked: 0,
+        full: None,
+        entries: 2,
+    },
+    Row {
+        limit: 10,
+        budget: 1_000,
+        input: b"",
+        chunk: 1,
+        read: NONE,
+        put: NONE,
+        out: b"",
+        end: ConnEnd::Ended,
+        taken: 0,
+        asked: 0,
+        full: None,
+        entries: 2,
+    },
+    Row {
+        limit: 10,
+        budget: 1_000,
+        input: b"close 1\nclo",
+        chunk: 1,
+        read: NONE,
+        put: NONE,
+        out: b"ERR INVALID_HANDLE 2 handle 1.1\n",
+        end: ConnEnd::Cut { left: 3 },
+        taken: 11,
+        asked: 1,
+        full: None,
+        entries: 3,
+    },
+    Row {
+        limit: 10,
+        budget: 8,
+        input: b"close 1\nclose 1\n",
+        chunk: 100,
+        read: NONE,
+        put: NONE,
+        out: b"ERR INVALID_HANDLE 2 handle 1.1\n",
+        end: ConnEnd::Spent,
+        taken: 8,
+        asked: 1,
+        full: None,
+        entries: 3,
+    },
+    Row {
+        limit: 10,
+        budget: 10,
+        input: b"close 1\nclose 1\n",
+        chunk: 3,
+        read: NONE,
+        put: NONE,
+        out: b"ERR INVALID_HANDLE 2 handle 1.1\n",
+        end: ConnEnd::Spent,
+        taken: 10,
+        asked: 1,
+        full: None,
+        entries: 3,
+    },
+    Row {
+        limit: 10,
+        budget: 0,
+        input: b"close 1\n",
+        chunk: 100,
+        read: NONE,
+        put: NONE,
+        out: b"",
+        end: ConnEnd::Spent,
+        taken: 0,
+        asked: 0,
+        full: None,
+        entries: 2,
+    },
+    Row {
+        limit: 10,
+        budget: 1_000,
+        input: b"close 1\n",
+        chunk: 100,
+        read: 0,
+        put: NONE,
+        out: b"",
+        end: ConnEnd::ReadFault,
+        taken: 0,
+        asked: 0,
+        full: None,
+        entries: 2,
+    },
+    Row {
+        limit: 10,
+        budget: 1_000,
+        input: b"close 1\nclose 1\n",
+        chunk: 8,
+        read: 1,
+        put: NONE,
+        out: b"ERR INVALID_HANDLE 2 handle 1.1\n",
+        end: ConnEnd::ReadFault,
+        taken: 8,
+        asked: 1,
+        full: None,
+        entries: 3,
+    },
+    Row {
+        limit: 10,
+        budget: 1_000,
+        input: b"close 1\nclose 1\n",
+        chunk: 8,
+        read: NONE,
+        put: 0,
+        out: b"",
+        end: ConnEnd::WriteFault,
+        taken: 8,
+        asked: 1,
+        full: None,
+        entries: 3,
+    },
+    Row {
+        limit: 3,
+        budget: 1_000,
+        input: b"close 1\nclose 1\n",
+        chunk: 100,
+        read: NONE,
+        put: NONE,
+        out: b"ERR INVALID_HANDLE 2 handle 1.1\nERR HISTORY_FULL 2 1 3\n",
+        end: ConnEnd::Ended,
+        taken: 16,
+        asked: 2,
+        full: Some(Full {
+            entries: 2,
+            sessions: 1,
+            limit: 3,
+        }),
+        entries: 3,
+    },
+    Row {
+        limit: 2,
+        budget: 1_000,
+        input: b"close 1\n",
+        chunk: 100,
+        read: NONE,
+        put: NONE,
+        out: b"ERR HISTORY_FULL 1 1 2\n",
+        end: ConnEnd::Ended,
+        taken: 8,
+        asked: 1,
+        full: Some(Full {
+            entries: 1,
+            sessions: 1,
+            limit: 2,
+        }),
+        entries: 2,
+    },
+    Row {
+        limit: 1,
+        budget: 1_000,
+        input: b"close 1\n",
+        chunk: 100,
+        read: NONE,
+        put: NONE,
+        out: b"",
+        end: ConnEnd::Full(Full {
+            entries: 0,
+            sessions: 0,
+            limit: 1,
+        }),
+        taken: 0,
+        asked: 0,
+        full: None,
+        entries: 0,
+    },
+];
+
+fn share(rt: &impl Abort, alloc: Global) -> ShareName {
+    match ShareName::read(alloc, b"data") {
+        Ok(name) => name,
+        Err(_) => panic!(rt; "data is no name of a share"),
+    }
+}
+
+#[test]
+fn sessions_end(rt: HostRuntime) -> Result<(), Fail> {
+    let alloc = rt.alloc();
+    let share = share(&rt, alloc);
+    for (number, row) in ROWS.iter().enumerate() {
+        let bytes = Vec::from_slice(alloc, row.input)?;
+        let reads = Vec::from_slice(alloc, &[row.read])?;
+        let puts = Vec::from_slice(alloc, &[row.put])?;
+        let mut link = MemLink {
+            source: MemSource::new(bytes, row.chunk, reads),
+            sink: MemSink::new(alloc, puts),
+            peer: 7,
+        };
+        let mut clock = StepClock { at: 5, step: 1 };
+        let mut book = Book::new(alloc, row.limit);
+        let report = serve_session(
+            alloc, &mut book, 1, &share, &mut link, &mut clock, row.budget,
+        );
+        let wanted = ConnReport {
+            end: row.end,
+            taken: row.taken,
+            asked: row.asked,
+            full: row.full,
+            starved: false,
+        };
+        assert_eq!(rt; report, wanted, "at {number}");
+        assert!(rt; link.sink.bytes() == row.out, "at {number}");
+        assert_eq!(rt; book.entries().len(), row.entries, "at {number}");
+        assert_eq!(rt; book.live(), 0, "at {number}");
+    }
+    Ok(())
+}
+
+/// A session whose second line is one byte over the limit.
+#[test]
+fn long_lines_close(rt: HostRuntime) -> Result<(), Fail> {
+    let alloc = rt.alloc();
+    let share = share(&rt, alloc);
+    let mut bytes = Vec::from_slice(alloc, b"close 1\n")?;
+    bytes.resize(2_097_417, b'a')?;
+    let mut link = MemLink {
+        source: MemSource::new(bytes, 65_536, Vec::new(alloc)),
+        sink: MemSink::new(alloc, Vec::new(alloc)),
+        peer: 7,
+    };
+    let mut clock = StepClock { at: 5, step: 1 };
+    let mut book = Book::new(alloc, 10);
+    let report = serve_session(
+        alloc,
+        &mut book,
+        1,
+        &share,
+        &mut link,
+        &mut clock,
+        1_099_511_627_776,
+    );
+    assert_eq!(rt; report.end, ConnEnd::Closed { at: Some(8) });
+    assert_eq!(rt; report.taken, 8);
+    assert!(rt;
+        link.sink.bytes() == b"ERR INVALID_HANDLE 2 handle 1.1\nERR LINE 2097408\n".as_slice()
+    );
+    assert_eq!(rt; book.entries().len(), 3);
+    Ok(())
+}
