@@ -1,14 +1,14 @@
 -- What operations use of a whole account.
-use Rattle.std.proofs.Common.{◌≡◌, ℕ, ◌+◌, ◌-◌, ◌^◌, ◌<◌, ◌≤◌, List, [], ◌∷◌, Option, Some, None, is_some, true, false, Bool, refl, ap, arith, length, option_map}
+use Rattle.std.proofs.Common.{◌≡◌, ℕ, ◌+◌, ◌-◌, ◌^◌, ◌<◌, List, [], ◌∷◌, Option, Some, None, is_some, true, refl, ap, arith, length, option_map}
 use Rattle.std.proofs.lemmas.Option.{slice_get-get_or}
 use Rattle.std.specs.Prelude.{IfSome}
-use Rattle.std.specs.List.{AllByRecursion, find}
+use Rattle.std.specs.List.{AllByRecursion}
 use Rattle.sx_base.specs.Entries.{value_at}
 use Rattle.sx_call.specs.declared.held.Live.{Live}
 use Rattle.sx_tree.specs.declared.node.Found.{Found}
 use Rattle.sx_tree.specs.declared.node.Found.TheVariants.{Node, Missing, NoParent}
 use Rattle.sx_tree.specs.declared.share.Share.{Share}
-use Rattle.sx_tree.specs.Nodes.{Nodes, Slot, slot_at, found_in}
+use Rattle.sx_tree.specs.Nodes.{Nodes, slot_at, found_in}
 use Rattle.sx_spec.specs.Account.{Account, share_named, place_of}
 use Rattle.sx_spec.specs.Step.{last_part}
 use Rattle.sx_spec.specs.Whole.{IsWhole, IsTree, IsLive}

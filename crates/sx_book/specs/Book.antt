@@ -1,5 +1,5 @@
 -- What a book keeps.
-use Rattle.std.specs.Prelude.{ℕ, ◌≡◌, ◌+◌, ◌≤◌, length, vec_len, vec_capacity}
+use Rattle.std.specs.Prelude.{◌≡◌, ◌+◌, ◌≤◌, length, vec_len, vec_capacity}
 use Rattle.sx_spec.specs.Step.{replay}
 use Rattle.sx_spec.specs.History.{IsHistory}
 use Rattle.sx_spec.specs.Whole.{IsWhole}

@@ -1,6 +1,6 @@
 -- One more entry in a history.
-use Rattle.std.proofs.Common.{ℕ, suc, ◌+◌, ◌-◌, ◌≤◌, ◌<◌, ◌≡◌, Bool, true, false, cond, not, List, [], ◌∷◌, ◌++◌, length, Option, Some, None, refl, ap, sym, ◌∙◌, subst, arith, length-append}
-use Rattle.std.specs.List.{find, filter, count_by, slice_get}
+use Rattle.std.proofs.Common.{ℕ, suc, ◌+◌, ◌-◌, ◌≤◌, ◌≡◌, Bool, true, false, cond, not, List, [], ◌∷◌, ◌++◌, length, Option, Some, None, refl, ap, sym, subst, arith, length-append}
+use Rattle.std.specs.List.{find, filter, slice_get}
 use Rattle.std.proofs.lemmas.Option.{same_Some}
 use Rattle.sx_base.specs.Moments.{greatest_moment}
 use Rattle.std.proofs.lemmas.List.Sums.{length-filter, count_by-le-length}

@@ -1,8 +1,6 @@
 -- The first check of a call that applies, as a refusal.
-use Rattle.std.specs.Prelude.{ℕ, if◌then◌else◌, List, [], ◌∷◌, Option, Some, None, is_some}
+use Rattle.std.specs.Prelude.{ℕ, if◌then◌else◌, List, [], ◌∷◌, Option, Some, None}
 use Rattle.std.specs.List.{list_any}
-use Rattle.sx_base.specs.Entries.{value_at}
-use Rattle.sx_guard.specs.declared.handle.HandleId.{HandleId}
 use Rattle.sx_call.specs.declared.call.Call.{Call}
 use Rattle.sx_call.specs.declared.call.Call.TheVariants.{CreateShare, Start, End, SmbOpen, SmbClose, SmbRead, SmbWrite}
 use Rattle.sx_call.specs.declared.call.How.{How}

@@ -1,10 +1,9 @@
 -- What an entry does to an account, and what it is answered.
-use Rattle.std.specs.Prelude.{ℕ, ◌+◌, ◌-◌, Bool, true, false, not, List, [], ◌∷◌, ◌++◌, length, filter, count_by, take, drop, slice_get, Option, Some, None}
+use Rattle.std.specs.Prelude.{ℕ, ◌+◌, ◌-◌, true, false, not, List, [], ◌∷◌, ◌++◌, length, filter, count_by, take, drop, slice_get, Option, Some, None}
 use Rattle.std.specs.Ordering.{nat_cmp}
 use Rattle.std.specs.BTreeMap.{insert_entry}
 use Rattle.sx_base.specs.Entries.{change, change_at}
 use Rattle.sx_guard.specs.declared.handle.Access.{Access}
-use Rattle.sx_guard.specs.declared.handle.HandleId.{HandleId}
 use Rattle.sx_guard.specs.declared.handle.Mode.{Mode}
 use Rattle.sx_call.specs.declared.call.Call.{Call}
 use Rattle.sx_call.specs.declared.call.Call.TheVariants.{CreateShare, Start, End, SmbOpen, SmbClose, SmbRead, SmbWrite}

@@ -1,4 +1,4 @@
-use Rattle.std.proofs.Common.{ℕ, ◌+◌, ◌≡◌, ap, ◌∙◌, refl, position, Some, None}
+use Rattle.std.proofs.Common.{◌≡◌, ap, ◌∙◌, refl, position, Some, None}
 use Rattle.std.specs.List.{find, slice_set}
 use Rattle.sx_base.proofs.Firsts.{change_position, find_none, find_position}
 use Rattle.sx_call.specs.declared.held.Live.{Live}

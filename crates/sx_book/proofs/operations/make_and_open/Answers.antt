@@ -1,4 +1,4 @@
-use Rattle.std.proofs.Common.{◌≡◌, ◌∙◌, sym, subst, arith, ap, ◌<◌, ◌^◌, ◌+◌}
+use Rattle.std.proofs.Common.{sym, subst, arith, ap, ◌<◌, ◌^◌, ◌+◌}
 use Rattle.sx_spec.specs.Account.{Account}
 use Rattle.sx_spec.specs.Whole.{IsWhole}
 use Rattle.sx_book.specs.State.{account_of}

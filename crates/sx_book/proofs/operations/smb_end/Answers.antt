@@ -1,4 +1,4 @@
-use Rattle.std.proofs.Common.{◌≡◌, ◌∙◌, ℕ, ◌≤◌, sym, subst, arith, ap, count_by}
+use Rattle.std.proofs.Common.{◌≡◌, sym, subst, arith, ap, count_by}
 use Rattle.std.proofs.lemmas.List.Sums.{count_by-le-length}
 use Rattle.sx_spec.specs.Account.{Account, is_of_session}
 use Rattle.sx_spec.specs.Whole.{IsWhole}

@@ -1,5 +1,4 @@
-use Rattle.std.proofs.Common.{◌≡◌, ◌∙◌, sym, Some}
-use Rattle.sx_spec.specs.Account.{place_of}
+use Rattle.std.proofs.Common.{◌∙◌, sym}
 use Rattle.sx_book.proofs.Wholes.{named}
 use Rattle.sx_book.proofs.operations.smb_open.Goals as goal
 

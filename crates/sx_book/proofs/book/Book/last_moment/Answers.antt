@@ -1,7 +1,5 @@
-use Rattle.std.proofs.Common.{◌≡◌, ◌∙◌, ◌≤◌, ◌-◌, sym, ap, length, Some, arith, List, refl}
+use Rattle.std.proofs.Common.{◌≡◌, ◌∙◌, ◌-◌, sym, ap, length, Some, arith}
 use Rattle.std.specs.List.{slice_get}
-use Rattle.sx_base.specs.Moments.{greatest_moment}
-use Rattle.sx_call.specs.declared.call.Noted.{Noted}
 use Rattle.sx_spec.specs.Account.{empty}
 use Rattle.sx_spec.specs.History.{History, last_moment}
 use Rattle.sx_spec.proofs.Histories.{moment_last, moment_clock}

@@ -1,4 +1,4 @@
-use Rattle.std.proofs.Common.{◌≡◌, ℕ, ◌+◌, ◌≤◌, ◌++◌, ◌∷◌, [], List, length, ap, arith, length-append, sym, ◌∙◌, subst, rules}
+use Rattle.std.proofs.Common.{◌≡◌, ◌+◌, ◌≤◌, ◌++◌, ◌∷◌, [], List, length, ap, arith, sym, ◌∙◌, subst}
 use Rattle.sx_call.specs.declared.call.Noted.{Noted}
 use Rattle.sx_call.specs.declared.reply.Reply.{Reply}
 use Rattle.sx_spec.specs.Account.{Account}
