@@ -42,7 +42,7 @@ pub enum LeaseCheck {
 /// The rules of leases that have no end, which file leases and share leases have in common.
 impl LeaseState {
     /// Acquires the lease under an id. Whoever holds it under that id is granted it again; under another id it is Taken.
-    pub fn acquire(&mut self, id: LeaseId) -> LeaseSay
+    pub(crate) fn acquire(&mut self, id: LeaseId) -> LeaseSay
         ensures acquired { (self.new, result) ≡ acquire self.old id }
         ensures refused { IsRefusal result → self.new ≡ self.old }
     {
@@ -62,7 +62,7 @@ impl LeaseState {
     }
 
     /// Changes the id of the lease that is held under `id`. Under another it is IdWrong; where none is held, NotThere.
-    pub fn change(&mut self, id: LeaseId, to: LeaseId) -> LeaseSay
+    pub(crate) fn change(&mut self, id: LeaseId, to: LeaseId) -> LeaseSay
         ensures changed { (self.new, result) ≡ change self.old id to }
         ensures refused { IsRefusal result → self.new ≡ self.old }
     {
@@ -79,7 +79,7 @@ impl LeaseState {
     }
 
     /// Releases the lease that is held under `id`. Under another it is IdWrong; where none is held, NotThere.
-    pub fn release(&mut self, id: LeaseId) -> LeaseSay
+    pub(crate) fn release(&mut self, id: LeaseId) -> LeaseSay
         ensures released { (self.new, result) ≡ release self.old id }
         ensures refused { IsRefusal result → self.new ≡ self.old }
     {
@@ -96,7 +96,7 @@ impl LeaseState {
     }
 
     /// Breaks the lease at once, with no id. A broken lease may be broken again; where there is none, NotThere.
-    pub fn break_now(&mut self) -> LeaseSay
+    pub(crate) fn break_now(&mut self) -> LeaseSay
         ensures broken { (self.new, result) ≡ break_now self.old }
         ensures refused { IsRefusal result → self.new ≡ self.old }
     {
@@ -110,7 +110,7 @@ impl LeaseState {
     }
 
     /// Checks a call that gives a lease id, or none, and writes or reads.
-    pub fn check(&self, given: Option<LeaseId>, writes: bool) -> LeaseCheck
+    pub(crate) fn check(&self, given: Option<LeaseId>, writes: bool) -> LeaseCheck
         ensures { result ≡ check self.now given writes }
     {
         match (*self, given) {
@@ -123,7 +123,7 @@ impl LeaseState {
     }
 
     /// The id under which the lease is held, if it is.
-    pub fn holder(&self) -> Option<LeaseId>
+    pub(crate) fn holder(&self) -> Option<LeaseId>
         ensures { result ≡ holder self.now }
     {
         match *self {

@@ -88,7 +88,7 @@ reason_kept End reader a b before mid now h le k = (end_kept a b h k.0, k.1, k.2
 reason_kept (Cut n) reader a b before mid now h le k = (told_kept (IsCutLine n) a b h k.0, k.1, k.2, k.3, k.4)
 reason_kept (Long at) reader a b before mid now h le k = (told_kept (BeginsUnended (line_limit + 1)) a b h k.0, k.1, k.2)
 reason_kept Spent reader a b before mid now h le k = (told_kept (BeginsUnended (reader.budget - reader.taken)) a b h k.0, k.1, k.2, k.3)
-reason_kept ReadFault reader a b before mid now h le k = omega (arith, le, k)
+reason_kept ReadFault reader a b before mid now h le k = (omega (arith, le, k.0), k.1)
 reason_kept NoMemory reader a b before mid now h le k = k
 
 -- an answer after a step that gave nothing

@@ -4,14 +4,14 @@ use Rattle.std.specs.List.{flat_map}
 use Rattle.std.specs.Io.KnownBytes.{Consumes}
 use Rattle.std.proofs.lemmas.List.{append-nil}
 use Rattle.std.proofs.lemmas.List.Concat.{flat_map-append}
-use Rattle.sx_base.specs.Told.{Told, Writes, WritesPrefix}
+use Rattle.sx_base.specs.Told.{Told}
 use Rattle.sx_base.proofs.Moments.{told_append}
 use Rattle.sx_base.proofs.Streams.{consumes_more, consumes_none}
 use Rattle.sx_call.specs.declared.call.Call.{Call}
 use Rattle.sx_call.specs.declared.call.Noted.{Noted}
 use Rattle.sx_spec.specs.History.{History}
 use Rattle.sx_smb_door.specs.Asking.{no_tally, IsAsked, IsBooked, IsCrowded, IsStarved, IsAnswered}
-use Rattle.sx_smb_door.specs.Conversation.{Outcome, unbuilt, unread, booked, crowded, starved, Turn, Speaker, MayTurn, MayTurns, history_after, history_of, answer_of, answers_to, tally_after, tally_of, lines_of, moments_of, moments_told, HasText, HasPrefix}
+use Rattle.sx_smb_door.specs.Conversation.{Outcome, unbuilt, unread, booked, crowded, starved, Turn, Speaker, MayTurn, MayTurns, history_after, history_of, answer_of, answers_to, tally_after, tally_of, lines_of, moments_of, moments_told, HasText, HasPrefix, HasBegun}
 use Rattle.sx_smb_door.specs.Limits.{line_limit}
 use Rattle.sx_smb_door.specs.Lines.{ended, IsOneLine}
 use Rattle.sx_smb_door.specs.SessionLines.{lined}
@@ -76,29 +76,20 @@ going_more {C} w ticks s0 s1 s2 ns0 ns1 ns2 c0 c1 c2 t1 t2 k1 k2 line o g one sh
 
 -- ---- what was written
 -- nothing
-pub text_none : (W : List ℕ → Type 0) → HasText W W []
-text_none W m h = subst W (sym (append-nil m)) h
+pub text_none : (wrote : List ℕ → Type 0) → HasText wrote wrote []
+text_none wrote m h = subst wrote (sym (append-nil m)) h
 
 -- one text behind another
-pub text_more : (W0 W1 W2 : List ℕ → Type 0) (x y : List ℕ) → HasText W0 W1 x → HasText W1 W2 y → HasText W0 W2 (x ++ y)
-text_more W0 W1 W2 x y h k m w = subst W2 (append_assoc m x y) (k (m ++ x) (h m w))
+pub text_more : (first second third : List ℕ → Type 0) (x y : List ℕ) → HasText first second x → HasText second third y → HasText first third (x ++ y)
+text_more first second third x y h k m w = subst third (append_assoc m x y) (k (m ++ x) (h m w))
 
 -- a prefix of a text behind another
-pub prefix_behind : (W0 W1 W2 : List ℕ → Type 0) (x y : List ℕ) → HasText W0 W1 x → HasPrefix W1 W2 y → HasPrefix W0 W2 (x ++ y)
-prefix_behind W0 W1 W2 x y h k m w =
-    let p = k (m ++ x) (h m w) in
-    (x ++ p.0, (p.1.0, append_assoc x p.0 p.1.0 ∙ ap (λ (t : List ℕ). x ++ t) p.1.1), subst W2 (append_assoc m x p.0) p.2)
+pub text_begun : (first second third : List ℕ → Type 0) (x y : List ℕ) → HasText first second x → HasPrefix second third y → HasBegun first third x y
+text_begun first second third x y h k m w = k (m ++ x) (h m w)
 
 -- what is told does not change where what was written does not
-pub text_kept : (W0 W1 W2 : List ℕ → Type 0) (x : List ℕ) → HasText W0 W1 x → ((m : List ℕ) → W1 m → W2 m) → HasText W0 W2 x
-text_kept W0 W1 W2 x h k m w = k (m ++ x) (h m w)
-
--- by what a sink's clauses say
-pub text_of_writes : {K : Type 0} (wrote : K → List ℕ → Type 0) (a b : K) (x : List ℕ) → Writes wrote a b x → HasText (wrote a) (wrote b) x
-text_of_writes wrote a b x h = h.behind
-
-pub prefix_of_writes : {K : Type 0} (wrote : K → List ℕ → Type 0) (a b : K) (x : List ℕ) → WritesPrefix wrote a b x → HasPrefix (wrote a) (wrote b) x
-prefix_of_writes wrote a b x h = h.behind
+pub text_kept : (first second third : List ℕ → Type 0) (x : List ℕ) → HasText first second x → ((m : List ℕ) → second m → third m) → HasText first third x
+text_kept first second third x h keep m w = keep (m ++ x) (h m w)
 
 -- ---- a call that was asked is a line that was answered
 three : {A B D X : Type 0} → A ⊎ B ⊎ D → (A → X) → (B → X) → (D → X) → X

@@ -1,7 +1,7 @@
 -- What a session is answered, line after line, from its Start to its End.
 use Rattle.std.specs.Prelude.{ℕ, ◌+◌, ◌-◌, ◌<◌, ◌≤◌, ◌≡◌, ◌⊎◌, max, false, true, List, [], ◌∷◌, ◌++◌, length, IfSome, Option, Some, None}
 use Rattle.std.specs.List.{flat_map}
-use Rattle.std.specs.Io.KnownBytes.{Consumes, IsAtEnd}
+use Rattle.std.specs.Io.KnownBytes.{Consumes, IsAtEnd, Keeps, prepend_known}
 use mathlib.Core.List.{IsPrefix}
 use Rattle.sx_base.specs.Causes.{Rose}
 use Rattle.sx_base.specs.Told.{Told}
@@ -125,18 +125,18 @@ lines_of ts = flat_map (λ t. ended t.line) ts
 abbrev pub moments_told : List Turn → List ℕ
 moments_told ts = flat_map (λ t. moments_of t.outcome) ts
 
--- how a session's lines ended: why no further line was answered, by what the link had left, how many bytes the lines have,
--- the budget, and the link's counts of failed reads and puts
-abbrev pub IsEnd : ConnEnd → Option (List ℕ) → ℕ → ℕ → ℕ → ℕ → ℕ → ℕ → Type 0
-IsEnd finish.Ended rest taken budget reads reads' writes writes' = IsAtEnd rest × (taken < budget)
-IsEnd (finish.Closed None) rest taken budget reads reads' writes writes' = ⊥
-IsEnd (finish.Closed (Some at)) rest taken budget reads reads' writes writes' = IfSome rest (BeginsUnended (line_limit + 1)) × (at ≡ taken)
-IsEnd (finish.Cut left) rest taken budget reads reads' writes writes' = IfSome rest (IsCutLine left) × (1 ≤ left) × (left ≤ line_limit) × (taken + left < budget)
-IsEnd finish.Spent rest taken budget reads reads' writes writes' = IfSome rest (BeginsUnended (budget - taken)) × (taken ≤ budget) × (budget ≤ taken + line_limit)
-IsEnd finish.ReadFault rest taken budget reads reads' writes writes' = Rose reads reads'
-IsEnd finish.WriteFault rest taken budget reads reads' writes writes' = Rose writes writes'
-IsEnd (finish.Full full) rest taken budget reads reads' writes writes' = ⊥
-IsEnd finish.NoMemory rest taken budget reads reads' writes writes' = Unit {0}
+-- how a session's lines ended: why no further line was answered, by what the link had left, which bytes of it were taken and
+-- not given, how many bytes the lines have, the budget, and the link's counts of failed reads and puts
+abbrev pub IsEnd : ConnEnd → Option (List ℕ) → List ℕ → ℕ → ℕ → ℕ → ℕ → ℕ → ℕ → Type 0
+IsEnd finish.Ended rest held taken budget reads reads' writes writes' = IsAtEnd rest × (taken < budget)
+IsEnd (finish.Closed None) rest held taken budget reads reads' writes writes' = ⊥
+IsEnd (finish.Closed (Some at)) rest held taken budget reads reads' writes writes' = IfSome rest (BeginsUnended (line_limit + 1)) × (at ≡ taken)
+IsEnd (finish.Cut left) rest held taken budget reads reads' writes writes' = IfSome rest (IsCutLine left) × (1 ≤ left) × (left ≤ line_limit) × (taken + left < budget)
+IsEnd finish.Spent rest held taken budget reads reads' writes writes' = IfSome rest (BeginsUnended (budget - taken)) × (taken ≤ budget) × (budget ≤ taken + line_limit)
+IsEnd finish.ReadFault rest held taken budget reads reads' writes writes' = Rose reads reads' × IsOneLine held × (length held ≤ line_limit)
+IsEnd finish.WriteFault rest held taken budget reads reads' writes writes' = Rose writes writes'
+IsEnd (finish.Full full) rest held taken budget reads reads' writes writes' = ⊥
+IsEnd finish.NoMemory rest held taken budget reads reads' writes writes' = Unit {0}
 
 -- the bytes that are reported as taken: those of the lines, with those of a line that was cut, and the budget where it is spent
 abbrev pub taken_at : ConnEnd → ℕ → ℕ → ℕ
@@ -149,18 +149,6 @@ taken_at finish.WriteFault taken budget = taken
 taken_at (finish.Full full) taken budget = taken
 taken_at finish.NoMemory taken budget = taken
 
--- what is written behind the answers: the answer to a line over its limit, and at every other end nothing
-abbrev pub IsClosing : ConnEnd → Option (List ℕ) → List ℕ → Type 0
-IsClosing (finish.Closed None) rest text = text ≡ []
-IsClosing (finish.Closed (Some at)) rest text = text ≡ lined Long
-IsClosing finish.WriteFault rest text = (text ≡ []) ⊎ ((text ≡ lined Long) × IfSome rest (BeginsUnended (line_limit + 1)))
-IsClosing finish.Ended rest text = text ≡ []
-IsClosing (finish.Cut left) rest text = text ≡ []
-IsClosing finish.Spent rest text = text ≡ []
-IsClosing finish.ReadFault rest text = text ≡ []
-IsClosing (finish.Full full) rest text = text ≡ []
-IsClosing finish.NoMemory rest text = text ≡ []
-
 -- the text was written behind what was written before
 abbrev pub HasText : (List ℕ → Type 0) → (List ℕ → Type 0) → List ℕ → Type 0
 HasText wrote wrote' text = (before : List ℕ) → wrote before → wrote' (before ++ text)
@@ -169,10 +157,26 @@ HasText wrote wrote' text = (before : List ℕ) → wrote before → wrote' (bef
 abbrev pub HasPrefix : (List ℕ → Type 0) → (List ℕ → Type 0) → List ℕ → Type 0
 HasPrefix wrote wrote' text = (before : List ℕ) → wrote before → (front : List ℕ) × IsPrefix front text × wrote' (before ++ front)
 
--- the whole text was written, or a prefix of it where a write failed
-abbrev pub HasWritten : ConnEnd → (List ℕ → Type 0) → (List ℕ → Type 0) → List ℕ → Type 0
-HasWritten finish.WriteFault wrote wrote' text = HasPrefix wrote wrote' text
-HasWritten end wrote wrote' text = HasText wrote wrote' text
+-- the text was written, and behind it a prefix of the last one
+abbrev pub HasBegun : (List ℕ → Type 0) → (List ℕ → Type 0) → List ℕ → List ℕ → Type 0
+HasBegun wrote wrote' text last = (before : List ℕ) → wrote before → (front : List ℕ) × IsPrefix front last × wrote' ((before ++ text) ++ front)
+
+-- a write failed at the answer to the last line: those before it were written, and a prefix of it
+pub record BreaksAtAnswer (w : Speaker) (ns : List Noted) (turns : List Turn) (wrote wrote' : List ℕ → Type 0) : Type 0 where
+  pub answered : List Turn
+  pub last : Turn
+  pub split : turns ≡ answered ++ last ∷ []
+  pub begun : HasBegun wrote wrote' (answers_to w ns answered) (lined (answer_of w (history_of w ns answered) last.outcome))
+
+-- a write failed at the refusal of a line over its limit: all answers were written, and a prefix of that
+abbrev pub BreaksAtRefusal : Speaker → List Noted → List Turn → Option (List ℕ) → (List ℕ → Type 0) → (List ℕ → Type 0) → Type 0
+BreaksAtRefusal w ns turns rest wrote wrote' = IfSome rest (BeginsUnended (line_limit + 1)) × HasBegun wrote wrote' (answers_to w ns turns) (lined Long)
+
+-- what was written: the answers, with the refusal of a line over its limit behind them, up to the write that failed
+abbrev pub HasWritten : ConnEnd → Speaker → List Noted → List Turn → Option (List ℕ) → (List ℕ → Type 0) → (List ℕ → Type 0) → Type 0
+HasWritten finish.WriteFault w ns turns rest wrote wrote' = BreaksAtAnswer w ns turns wrote wrote' ⊎ BreaksAtRefusal w ns turns rest wrote wrote'
+HasWritten (finish.Closed at) w ns turns rest wrote wrote' = HasText wrote wrote' (answers_to w ns turns ++ lined Long)
+HasWritten end w ns turns rest wrote wrote' = HasText wrote wrote' (answers_to w ns turns)
 
 -- a link's streams and counts of failures, and a book and a clock, before or after a call
 pub record Side (C : Type 0) : Type 0 where
@@ -182,20 +186,22 @@ pub record Side (C : Type 0) : Type 0 where
   pub entries : List Noted
   pub clock : C
 
--- the lines that a session answered, and how it ended
+-- the lines that a session answered, and how it ended: what the link had left behind the lines is what was taken of it and
+-- not given, and what it has left
 pub record Served {C : Type 0} (w : Speaker) (budget : ℕ) (ticks : C → ℕ → C → Type 0) (wrote wrote' : List ℕ → Type 0) (old new : Side C) (tally : Tally) (end : ConnEnd) (taken : ℕ) : Type 0 where
   pub turns : List Turn
-  pub rest : Option (List ℕ)
-  pub text : List ℕ
   pub may : MayTurns w old.entries turns
+  pub rest : Option (List ℕ)
   pub bytes : Consumes old.left rest (lines_of turns)
+  pub held : List ℕ
+  pub unread : Keeps rest (prepend_known held new.left)
   pub taken_is : taken ≡ length (lines_of turns)
+  pub within : taken ≤ budget
   pub history : new.entries ≡ history_of w old.entries turns
   pub tallied : tally ≡ tally_of w old.entries (record { asked = 0; full = None; starved = false }) turns
   pub told : Told ticks old.clock (moments_told turns) new.clock
-  pub closing : IsClosing end rest text
-  pub written : HasWritten end wrote wrote' (answers_to w old.entries turns ++ text)
-  pub ended : IsEnd end rest taken budget old.reads new.reads old.writes new.writes
+  pub written : HasWritten end w old.entries turns rest wrote wrote'
+  pub ended : IsEnd end rest held taken budget old.reads new.reads old.writes new.writes
 
 abbrev pub start_entry : ℕ → List Noted → ℕ → ℕ → Entry
 start_entry who ns moment peer = record { who = who; session = 0; at = later ns moment; fresh = 0; call = Start peer }

@@ -48,6 +48,12 @@ pub record Stays (old new : Lines) (left left' : Option (List ℕ)) : Type 0 whe
   pub taken : new.taken ≡ old.taken
   pub budget : new.budget ≡ old.budget
 
+-- what is held is the beginning of a line within its limit, and the budget leaves room for more
+pub record WantsMore (reader : Lines) : Type 0 where
+  pub one : IsOneLine reader.held
+  pub short : length reader.held ≤ line_limit
+  pub room : reader.taken + length reader.held < reader.budget
+
 -- why no line was given, by the reader afterwards and what it had yet to give
 abbrev pub Because : NextLine → Lines → Option (List ℕ) → ℕ → ℕ → Type 0
 Because (Line line) reader bytes before now = ⊥
@@ -55,7 +61,7 @@ Because End reader bytes before now = IsAtEnd bytes × (reader.held ≡ []) × (
 Because (Cut left) reader bytes before now = IfSome bytes (IsCutLine left) × IsCutLine left reader.held × (1 ≤ left) × (left ≤ line_limit) × (reader.taken + left < reader.budget)
 Because (Long at) reader bytes before now = IfSome bytes (BeginsUnended (line_limit + 1)) × BeginsUnended (line_limit + 1) reader.held × (at ≡ reader.taken)
 Because Spent reader bytes before now = IfSome bytes (BeginsUnended (reader.budget - reader.taken)) × IsCutLine (reader.budget - reader.taken) reader.held × (reader.taken ≤ reader.budget) × (reader.budget ≤ reader.taken + line_limit)
-Because ReadFault reader bytes before now = Rose before now
+Because ReadFault reader bytes before now = Rose before now × WantsMore reader
 Because NoMemory reader bytes before now = Unit {0}
 
 -- what a reader answered, with what its source has left and its count of faults, before and after
@@ -67,17 +73,11 @@ Answered next old new left left' before now = Stays old new left left' × Becaus
 abbrev pub AtEnd : NextLine → Lines → Type 0
 AtEnd next reader = (bytes : Option (List ℕ)) → (before now : ℕ) → IfSome bytes (λ b. b ≡ reader.held) → Because next reader bytes before now
 
--- what is held is the beginning of a line within its limit, and the budget leaves room for more
-pub record WantsMore (reader : Lines) : Type 0 where
-  pub one : IsOneLine reader.held
-  pub short : length reader.held ≤ line_limit
-  pub room : reader.taken + length reader.held < reader.budget
-
 -- what one read did
 abbrev pub Filling : Filled → Lines → Lines → Option (List ℕ) → Option (List ℕ) → ℕ → ℕ → Type 0
 Filling More old new left left' before now = Stays old new left left' × (take (length old.held) new.held ≡ old.held) × (length old.held < length new.held)
 Filling Ended old new left left' before now = Stays old new left left' × IsAtEnd left' × (new ≡ old)
-Filling Failed old new left left' before now = Stays old new left left' × Rose before now
+Filling Failed old new left left' before now = Stays old new left left' × Rose before now × (new ≡ old)
 Filling Starved old new left left' before now = Stays old new left left'
 
 -- the same, by the bytes that are kept for the reader

@@ -1,6 +1,7 @@
 use Rattle.std.proofs.Common.{◌≡◌, ℕ, List, [], Some, Option, inl, inr, refl, sym, ap, ◌∙◌, subst, arith}
-use Rattle.std.specs.Io.KnownBytes.{prepend_known, Consumes}
+use Rattle.std.specs.Io.KnownBytes.{prepend_known, Consumes, Keeps}
 use Rattle.std.proofs.KnownBytes.{prepend_known-nil}
+use Rattle.sx_base.proofs.Streams.{keeps_same}
 use Rattle.sx_book.specs.declared.report.ConnEnd.TheVariants as finish
 use Rattle.sx_spec.specs.History.{History}
 use Rattle.sx_smb_door.specs.Asking.{IsAnswered}
@@ -9,8 +10,8 @@ use Rattle.sx_smb_door.specs.Lines.{stream, ended}
 use Rattle.sx_smb_door.specs.SessionLines.{lined}
 use Rattle.sx_smb_door.specs.declared.answer.LineAnswer.TheVariants.{Long}
 use Rattle.sx_smb_door.specs.declared.tally.Tally.{Tally}
-use Rattle.sx_smb_door.proofs.Turns.{text_kept, text_more, prefix_behind, asked_after}
-use Rattle.sx_smb_door.proofs.Ends.{run_none, run_more, run_fails, served_by, prefix_end}
+use Rattle.sx_smb_door.proofs.Turns.{text_kept, text_more, text_begun, asked_after}
+use Rattle.sx_smb_door.proofs.Ends.{run_none, run_more, run_breaks, served_by}
 use Rattle.sx_smb_door.proofs.session.serve_lines.Goals as goal
 
 pub loop-line-init : goal.loop-line-init
@@ -58,6 +59,10 @@ loop-line-preserved g c =
 left_first : (held : List ℕ) (left : Option (List ℕ)) → held ≡ [] → prepend_known held left ≡ left
 left_first held left e = ap (λ (h : List ℕ). prepend_known h left) e ∙ prepend_known-nil left
 
+-- what a step leaves of the stream, where another leaves what the source has
+unread_kept : (stream : Option (List ℕ)) (held : List ℕ) (left left' : Option (List ℕ)) → left' ≡ left → Keeps stream (prepend_known held left) → Keeps stream (prepend_known held left')
+unread_kept stream held left left' e h = subst (λ (x : Option (List ℕ)). Keeps stream (prepend_known held x)) (sym e) h
+
 pub returns-in-Err-clause-served : goal.returns-in-Err-clause-served
 returns-in-Err-clause-served g c =
     let l = c.loop-line in
@@ -67,13 +72,15 @@ returns-in-Err-clause-served g c =
     let a = subst (P c.in-Line.line) inv.limit (subst (λ (line : List ℕ). P line l.book.limit) c.as_slice.ensures c.answer_line-answer.ensures) in
     let given = c.in-Line.ensures.answered in
     let reads = g.met.L.Link.read_keeps l.link c.next.new.source c.next.ensures.step in
-    let run = run_fails w g.C.Clock.ticks (stream c.args.reader.now (g.L.Source.left c.args.link.now)) (stream l.reader (g.L.Source.left l.link)) (stream c.next.new.self (g.L.Source.left c.next.new.source))
+    let puts = g.met.L.Link.put_keeps c.next.new.source c.print_line.new.sink c.in-Err.ensures.step in
+    let rest = stream c.next.new.self (g.L.Source.left c.next.new.source) in
+    let run = run_breaks w g.C.Clock.ticks (stream c.args.reader.now (g.L.Source.left c.args.link.now)) (stream l.reader (g.L.Source.left l.link)) rest
     c.args.book.now.entries l.book c.answer_line-answer.new.book c.args.clock.now l.clock c.answer_line-answer.new.clock l.tally c.answer_line-answer.new.tally l.reader.taken c.next.new.self.taken
     (g.L.Sink.wrote c.args.link.now) (g.L.Sink.wrote l.link) (g.L.Sink.wrote c.next.new.source) (g.L.Sink.wrote c.print_line.new.sink) c.in-Line.line c.answer_line-answer.result
     inv.run given.one given.short given.bytes given.taken a (λ m. (reads.written m).0) c.in-Err.ensures.err.behind in
-    served_by w c.args.reader.now.budget g.C.Clock.ticks (g.L.Sink.wrote c.args.link.now) (g.L.Sink.wrote c.print_line.new.sink) _ _ c.answer_line-answer.new.tally finish.WriteFault _ _ c.next.new.self.taken c.next.new.self.taken []
-    run.0 (left_first c.args.reader.now.held (g.L.Source.left c.args.link.now) c.requires.reader.0) refl (inl refl)
-    (prefix_end (g.L.Sink.wrote c.args.link.now) (g.L.Sink.wrote c.print_line.new.sink) (answers_to w c.args.book.now.entries run.0.turns) run.1)
+    served_by w c.args.reader.now.budget g.C.Clock.ticks (g.L.Sink.wrote c.args.link.now) (g.L.Sink.wrote c.print_line.new.sink) _ _ c.answer_line-answer.new.tally finish.WriteFault (stream c.args.reader.now (g.L.Source.left c.args.link.now)) rest c.next.new.self.held c.next.new.self.taken c.next.new.self.taken
+    run.0 (left_first c.args.reader.now.held (g.L.Source.left c.args.link.now) c.requires.reader.0) refl (omega (arith, given.within, given.budget, inv.budget))
+    (unread_kept rest c.next.new.self.held (g.L.Source.left c.next.new.source) (g.L.Source.left c.print_line.new.sink) puts.rest (keeps_same rest)) (inl run.1)
     (omega (arith, inv.writes, reads.faults, c.in-Err.ensures.cause.failed))
 
 pub returns-in-Ok-print_line-clause-served : goal.returns-in-Ok-print_line-clause-served
@@ -83,9 +90,12 @@ returns-in-Ok-print_line-clause-served g c =
     let w : Speaker = record { who = c.args.party.who; session = c.args.party.session; share = c.args.share.now; limit = c.args.book.now.limit } in
     let given = c.in-Long.ensures.answered in
     let reads = g.met.L.Link.read_keeps l.link c.next.new.source c.next.ensures.step in
+    let puts = g.met.L.Link.put_keeps c.next.new.source c.print_line-in-Long.new.sink c.in-Ok-print_line.ensures.step in
     let said = answers_to w c.args.book.now.entries inv.run.0.turns in
-    served_by w c.args.reader.now.budget g.C.Clock.ticks (g.L.Sink.wrote c.args.link.now) (g.L.Sink.wrote c.print_line-in-Long.new.sink) _ _ l.tally (finish.Closed (Some c.in-Long.at)) _ _ l.reader.taken c.next.new.self.taken (lined Long)
-    inv.run.0 (left_first c.args.reader.now.held (g.L.Source.left c.args.link.now) c.requires.reader.0) given.0.taken refl
+    let rest = stream l.reader (g.L.Source.left l.link) in
+    served_by w c.args.reader.now.budget g.C.Clock.ticks (g.L.Sink.wrote c.args.link.now) (g.L.Sink.wrote c.print_line-in-Long.new.sink) _ _ l.tally (finish.Closed (Some c.in-Long.at)) (stream c.args.reader.now (g.L.Source.left c.args.link.now)) rest c.next.new.self.held l.reader.taken c.next.new.self.taken
+    inv.run.0 (left_first c.args.reader.now.held (g.L.Source.left c.args.link.now) c.requires.reader.0) given.0.taken (omega (arith, c.next.ensures.within, given.0.budget, inv.budget))
+    (unread_kept rest c.next.new.self.held (g.L.Source.left c.next.new.source) (g.L.Source.left c.print_line-in-Long.new.sink) puts.rest given.0.bytes)
     (text_more (g.L.Sink.wrote c.args.link.now) (g.L.Sink.wrote c.next.new.source) (g.L.Sink.wrote c.print_line-in-Long.new.sink) said (lined Long)
     (text_kept (g.L.Sink.wrote c.args.link.now) (g.L.Sink.wrote l.link) (g.L.Sink.wrote c.next.new.source) said inv.run.1 (λ m. (reads.written m).0)) c.in-Ok-print_line.ensures.ok.behind)
     (given.1.0, given.1.2)
@@ -97,9 +107,15 @@ returns-in-Err-print_line-clause-served g c =
     let w : Speaker = record { who = c.args.party.who; session = c.args.party.session; share = c.args.share.now; limit = c.args.book.now.limit } in
     let given = c.in-Long.ensures.answered in
     let reads = g.met.L.Link.read_keeps l.link c.next.new.source c.next.ensures.step in
+    let puts = g.met.L.Link.put_keeps c.next.new.source c.print_line-in-Long.new.sink c.in-Err-print_line.ensures.step in
     let said = answers_to w c.args.book.now.entries inv.run.0.turns in
-    served_by w c.args.reader.now.budget g.C.Clock.ticks (g.L.Sink.wrote c.args.link.now) (g.L.Sink.wrote c.print_line-in-Long.new.sink) _ _ l.tally finish.WriteFault _ _ l.reader.taken c.next.new.self.taken (lined Long)
-    inv.run.0 (left_first c.args.reader.now.held (g.L.Source.left c.args.link.now) c.requires.reader.0) given.0.taken (inr (refl, given.1.0))
-    (prefix_behind (g.L.Sink.wrote c.args.link.now) (g.L.Sink.wrote c.next.new.source) (g.L.Sink.wrote c.print_line-in-Long.new.sink) said (lined Long)
-    (text_kept (g.L.Sink.wrote c.args.link.now) (g.L.Sink.wrote l.link) (g.L.Sink.wrote c.next.new.source) said inv.run.1 (λ m. (reads.written m).0)) c.in-Err-print_line.ensures.err.behind)
+    let rest = stream l.reader (g.L.Source.left l.link) in
+    served_by w c.args.reader.now.budget g.C.Clock.ticks (g.L.Sink.wrote c.args.link.now) (g.L.Sink.wrote c.print_line-in-Long.new.sink) _ _ l.tally finish.WriteFault (stream c.args.reader.now (g.L.Source.left c.args.link.now)) rest c.next.new.self.held l.reader.taken c.next.new.self.taken
+    inv.run.0 (left_first c.args.reader.now.held (g.L.Source.left c.args.link.now) c.requires.reader.0) given.0.taken (omega (arith, c.next.ensures.within, given.0.budget, inv.budget))
+    (unread_kept rest c.next.new.self.held (g.L.Source.left c.next.new.source) (g.L.Source.left c.print_line-in-Long.new.sink) puts.rest given.0.bytes)
+    (inr (
+      given.1.0,
+      text_begun (g.L.Sink.wrote c.args.link.now) (g.L.Sink.wrote c.next.new.source) (g.L.Sink.wrote c.print_line-in-Long.new.sink) said (lined Long)
+          (text_kept (g.L.Sink.wrote c.args.link.now) (g.L.Sink.wrote l.link) (g.L.Sink.wrote c.next.new.source) said inv.run.1 (λ m. (reads.written m).0)) c.in-Err-print_line.ensures.err.behind,
+    ))
     (omega (arith, inv.writes, reads.faults, c.in-Err-print_line.ensures.cause.failed))
