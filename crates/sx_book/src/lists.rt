@@ -2,17 +2,11 @@ ghost use Rattle.std.specs.Prelude.{◌≡◌, ◌+◌, ◌-◌, ◌<◌, ◌^�
 ghost use Rattle.std.specs.List.{find, position_or_len, AllByRecursion};
 ghost use Rattle.std.specs.Option.{option_copied};
 ghost use Rattle.sx_base.specs.Entries.{change};
-ghost use Rattle.sx_spec.specs.Account.{is_session, is_before, has_handle, is_of_session, with_open};
+ghost use Rattle.sx_guard.specs.Handles.{handle_before};
+ghost use Rattle.sx_spec.specs.Account.{is_session, has_handle, is_of_session, with_open};
 ghost use Rattle.sx_spec.specs.Step.{grant, granted_in};
 
 use sx_call::{HandleId, Live, Open};
-
-fn is_before(handle: HandleId, other: HandleId) -> bool
-    ensures { result ≡ is_before handle other }
-{
-    handle.session < other.session
-        || (handle.session == other.session && handle.index < other.index)
-}
 
 /// The handle that a session has open under an index.
 pub fn open_at(opens: &[Open], session: u32, index: u32) -> Option<&Open>
@@ -76,15 +70,15 @@ pub fn grant(sessions: &mut Vec<Live>, session: u32) -> u32
 }
 
 fn place_after(opens: &[Open], handle: HandleId) -> Option<usize>
-    ensures place { result ≡ position (λ q. is_before handle q.handle) opens.now }
+    ensures place { result ≡ position (λ q. handle_before handle q.handle) opens.now }
     ensures within { IfSome result (λ i. i < length opens.now) }
 {
-    opens.iter().position(|q| is_before(handle, q.handle))
+    opens.iter().position(|q| handle < q.handle)
 }
 
 /// Where a handle's open has its place: before the first that has a greater handle.
 fn open_place(opens: &[Open], handle: HandleId) -> usize
-    ensures place { result ≡ position_or_len (λ q. is_before handle q.handle) opens.now }
+    ensures place { result ≡ position_or_len (λ q. handle_before handle q.handle) opens.now }
     ensures within { result ≤ length opens.now }
 {
     match place_after(opens, handle) {

@@ -16,7 +16,8 @@ use Rattle.sx_names.specs.Names.{is_share_name}
 use Rattle.sx_tree.specs.declared.share.Share.{Share}
 use Rattle.sx_tree.specs.Files.{is_directory}
 use Rattle.sx_tree.specs.Nodes.{Slot, slot_at, new_nodes}
-use Rattle.sx_spec.specs.Account.{Account, is_session, is_of_session, session_of, has_name, is_before, with_open}
+use Rattle.sx_guard.specs.Handles.{handle_before}
+use Rattle.sx_spec.specs.Account.{Account, is_session, is_of_session, session_of, has_name, with_open}
 use Rattle.sx_spec.specs.Step.{came_one, with_share, with_session, without_session, granted_in, next_index, grant, opened}
 use Rattle.sx_spec.specs.Whole.{IsOpen, IsWhole}
 use Rattle.sx_spec.proofs.Sessions.{AreSessions, sessions_later, sessions_same, sessions_started, started_stay, sessions_ended, sessions_granted, granted_finds, granted_stay}
@@ -76,7 +77,7 @@ fewer {X} p (x ∷ xs) =
     ]
 
 one_more : (o : Open) (os : List Open) → length (with_open o os) ≡ length os + 1
-one_more o os = length-insert os (position_or_len (λ q. is_before o.handle q.handle) os) o (prefix_len-le-length (λ q. not (is_before o.handle q.handle)) os)
+one_more o os = length-insert os (position_or_len (λ q. handle_before o.handle q.handle) os) o (prefix_len-le-length (λ q. not (handle_before o.handle q.handle)) os)
 
 -- ---- the changes
 -- nothing changes but the count of entries

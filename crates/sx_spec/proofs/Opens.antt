@@ -9,7 +9,8 @@ use Rattle.sx_call.specs.declared.held.Open.{Open}
 use Rattle.sx_tree.specs.declared.share.Share.{Share}
 use Rattle.sx_tree.specs.Files.{is_directory}
 use Rattle.sx_tree.specs.Nodes.{Nodes, Slot, slot_at}
-use Rattle.sx_spec.specs.Account.{is_session, is_of_session, is_before, with_open}
+use Rattle.sx_guard.specs.Handles.{handle_before}
+use Rattle.sx_spec.specs.Account.{is_session, is_of_session, with_open}
 use Rattle.sx_spec.specs.Whole.{IsOpen, AreInOrder}
 use Rattle.sx_spec.proofs.Lists.{all_map, all_with, all_filter, all_pass}
 use Rattle.sx_spec.proofs.Sessions.{SessionsStay, ended_finds}
@@ -94,7 +95,7 @@ opens_ended ls ss n os w = record {
 
 -- a session's opens have lesser indexes than its next one
 differs : (ls : List Live) (ss : List (ℕ × Share)) (o : Open) (l : Live) → find (is_session o.handle.session) ls ≡ Some l → o.handle.index ≡ l.granted + 1
-    → (q : Open) → IsOpen ls ss q → is_before o.handle q.handle ≡ false → is_before q.handle o.handle ≡ true
+    → (q : Open) → IsOpen ls ss q → handle_before o.handle q.handle ≡ false → handle_before q.handle o.handle ≡ true
 differs ls ss o l at next q w = λ e. ⊎_elim
     (λ (same : o.handle.session ≡ q.handle.session).
     let found : find (is_session o.handle.session) ls ≡ Some w.live = ap (λ (n : ℕ). find (is_session n) ls) same ∙ w.session in
@@ -107,6 +108,6 @@ differs ls ss o l at next q w = λ e. ⊎_elim
 pub opens_more : (ls : List Live) (ss : List (ℕ × Share)) (o : Open) (l : Live) (os : List Open) → find (is_session o.handle.session) ls ≡ Some l → o.handle.index ≡ l.granted + 1
     → AreOpens ls ss os → (ks : List Live) (rs : List (ℕ × Share)) → SessionsStay ls ks → SharesStay ss rs → IsOpen ks rs o → AreOpens ks rs (with_open o os)
 opens_more ls ss o l os at next w ks rs a b new = record {
-  order = with_order o os (all_map (IsOpen ls ss) (λ q. is_before o.handle q.handle ≡ false → is_before q.handle o.handle ≡ true) (differs ls ss o l at next) os w.opens) w.order;
+  order = with_order o os (all_map (IsOpen ls ss) (λ q. handle_before o.handle q.handle ≡ false → handle_before q.handle o.handle ≡ true) (differs ls ss o l at next) os w.opens) w.order;
   opens = all_with_open (IsOpen ks rs) o os new (all_map (IsOpen ls ss) (IsOpen ks rs) (open_stays ls ks ss rs a b) os w.opens);
 }

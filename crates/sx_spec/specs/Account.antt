@@ -1,8 +1,8 @@
 -- What an account is: sessions, open handles and shares with their trees.
-use Rattle.std.specs.Prelude.{ℕ, ◌==◌, ◌&&◌, ◌||◌, nat_lt, bytes_eq, Bool, List, [], Option, option_map, option_and_then, insert}
+use Rattle.std.specs.Prelude.{ℕ, ◌==◌, ◌&&◌, bytes_eq, Bool, List, [], Option, option_map, option_and_then, insert}
 use Rattle.std.specs.List.{find, position_or_len}
 use Rattle.sx_base.specs.Entries.{value_at}
-use Rattle.sx_guard.specs.declared.handle.HandleId.{HandleId}
+use Rattle.sx_guard.specs.Handles.{handle_before}
 use Rattle.sx_call.specs.declared.held.Live.{Live}
 use Rattle.sx_call.specs.declared.held.Open.{Open}
 use Rattle.sx_tree.specs.declared.node.Found.{Found}
@@ -31,10 +31,6 @@ is_session session l = l.session == session
 abbrev pub session_of : Account → ℕ → Option Live
 session_of a session = find (is_session session) a.sessions
 
--- handles are ordered by session, then index
-abbrev pub is_before : HandleId → HandleId → Bool
-is_before h k = nat_lt h.session k.session || (h.session == k.session && nat_lt h.index k.index)
-
 abbrev pub has_handle : ℕ → ℕ → Open → Bool
 has_handle session index o = o.handle.session == session && o.handle.index == index
 
@@ -46,7 +42,7 @@ open_of a session index = find (has_handle session index) a.opens
 
 -- the opens with one more, before the first that has a greater handle
 abbrev pub with_open : Open → List Open → List Open
-with_open o opens = insert opens (position_or_len (λ q. is_before o.handle q.handle) opens) o
+with_open o opens = insert opens (position_or_len (λ q. handle_before o.handle q.handle) opens) o
 
 abbrev pub has_name : List ℕ → ℕ × Share → Bool
 has_name name e = bytes_eq e.1.name name

@@ -14,7 +14,8 @@ use Rattle.sx_names.specs.Names.{fold, is_part, is_share_name}
 use Rattle.sx_tree.specs.declared.share.Share.{Share}
 use Rattle.sx_tree.specs.Files.{is_directory}
 use Rattle.sx_tree.specs.Nodes.{Nodes, Slot, slot_at, by_name}
-use Rattle.sx_spec.specs.Account.{Account, is_session, is_before}
+use Rattle.sx_guard.specs.Handles.{handle_before}
+use Rattle.sx_spec.specs.Account.{Account, is_session}
 
 -- a node but the root: it has a name, and stands under it in a directory, which came before it
 pub record IsChild (t : Nodes) (id : ℕ) (x : Slot) : Type 0 where
@@ -66,7 +67,7 @@ AreDifferent (l ∷ ls) = AllByRecursion (λ k. l.session < k.session) ls × Are
 -- the opens stand in the order of their handles
 abbrev pub AreInOrder : List Open → Type 0
 AreInOrder [] = Unit {0}
-AreInOrder (o ∷ os) = AllByRecursion (λ q. is_before o.handle q.handle ≡ true) os × AreInOrder os
+AreInOrder (o ∷ os) = AllByRecursion (λ q. handle_before o.handle q.handle ≡ true) os × AreInOrder os
 
 -- an open has a live session that granted it, a node that stands and is no root, and a moment of a clock
 pub record IsOpen (sessions : List Live) (shares : List (ℕ × Share)) (o : Open) : Type 0 where

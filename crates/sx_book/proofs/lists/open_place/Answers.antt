@@ -1,10 +1,11 @@
 use Rattle.std.proofs.Common.{◌≡◌, position, None}
 use Rattle.sx_base.proofs.Firsts.{position_or_len-none}
 use Rattle.sx_call.specs.declared.held.Open.{Open}
-use Rattle.sx_spec.specs.Account.{is_before}
+use Rattle.sx_guard.specs.Handles.{handle_before}
+
 use Rattle.sx_book.proofs.lists.open_place.Goals as goal
 
 pub returns-in-None-clause-place : goal.returns-in-None-clause-place
 returns-in-None-clause-place c =
-    let e : position (λ (q : Open). is_before c.args.handle q.handle) c.args.opens.now ≡ None = cc in
-    position_or_len-none (λ (q : Open). is_before c.args.handle q.handle) c.args.opens.now e
+    let e : position (λ (q : Open). handle_before c.args.handle q.handle) c.args.opens.now ≡ None = cc in
+    position_or_len-none (λ (q : Open). handle_before c.args.handle q.handle) c.args.opens.now e
