@@ -1,0 +1,87 @@
+ghost use Rattle.std.specs.Prelude.{◌≡◌, ◌<◌, ◌≤◌, ◌^◌, ℕ, suc, List, false, ◌++◌, ◌⊎◌};
+ghost use Rattle.std.specs.List.{AllByRecursion};
+ghost use Rattle.sx_text.specs.Texts.{Reader, IsReading, IsWholeReading};
+ghost use Rattle.sx_text.specs.Readers.{after, pair_at, closed_at, made_at, all_values_at, values_text, IsNoStart, whole_of};
+ghost use Rattle.sx_text.specs.Machines.{Step, run_from, Leads, IsLive};
+ghost use Rattle.sx_text.specs.Numbers.{IsFrom, is_digit, number_text, number_at, number_after};
+ghost use Rattle.sx_text.specs.Digits.{digits_text, digits_at, digits_after};
+
+/// A form of text over items of type `E`: the text of each value, and the values that have one.
+pub trait Form<E> {
+    ghost text: { Self → List E };
+
+    ghost Fits: { Self → Type 0 };
+}
+
+/// A form of text that depends on a value of `A` in front of it.
+pub trait FormBehind<E, A> {
+    ghost text: { A → Self → List E };
+
+    ghost Fits: { A → Self → Type 0 };
+}
+
+/// The states of a machine: which of them are live.
+pub trait State {
+    ghost Live: { Self → Type 0 };
+}
+
+/// The law of whole texts: a reader of a form that has to end with the items reads exactly the texts, and else tells the length
+/// of the longest prefix that begins one. It does nothing.
+pub fn whole_texts_are_read<E, A: Form<E>>()
+    ensures { ((x y : E) → (x ≡ y) ⊎ (x ≡ y → ⊥)) → (read : Reader E A) → IsReading A.text A.Fits read
+        → IsWholeReading A.text A.Fits (whole_of read) }
+{}
+
+/// The law of pairs: a value, and then one whose form may depend on it, where each first value that fits has a second one. It
+/// does nothing.
+pub fn pairs_are_read<E, A: Form<E>, B: FormBehind<E, A>>()
+    ensures { ((x y : E) → (x ≡ y) ⊎ (x ≡ y → ⊥)) → (first : Reader E A) (next : A → Reader E B)
+        → IsReading A.text A.Fits first → ((a : A) → A.Fits a → (b : B) × B.Fits a b)
+        → ((a : A) → A.Fits a → IsReading (B.text a) (B.Fits a) (next a))
+        → IsReading (λ x. A.text x.0 ++ B.text x.0 x.1) (λ x. A.Fits x.0 × B.Fits x.0 x.1) (pair_at first next) }
+{}
+
+/// The law of values that are made of others, by a function and its inverse that keep the texts. It does nothing.
+pub fn made_values_are_read<E, A: Form<E>, B: Form<E>>()
+    ensures { ((x y : E) → (x ≡ y) ⊎ (x ≡ y → ⊥)) → (make : A → B) (part : B → A) (read : Reader E A)
+        → ((a : A) → A.Fits a → B.Fits (make a) × (B.text (make a) ≡ A.text a))
+        → ((b : B) → B.Fits b → A.Fits (part b) × (make (part b) ≡ b))
+        → IsReading A.text A.Fits read → IsReading B.text B.Fits (made_at make read) }
+{}
+
+/// The law of literals: in front of a value, of which the form has one, and behind a value. It does nothing.
+pub fn literals_are_read<A: Form<u8>>()
+    ensures before { (literal : List ℕ) (next : Reader ℕ A) → (a : A) → A.Fits a → IsReading A.text A.Fits next
+        → IsReading (λ x. literal ++ A.text x) A.Fits (after literal next) }
+    ensures behind { (literal : List ℕ) (read : Reader ℕ A) → IsReading A.text A.Fits read
+        → IsReading (λ x. A.text x ++ literal) A.Fits (closed_at read literal) }
+{}
+
+/// The law of values up to a byte that begins none of them. It does nothing.
+pub fn values_are_read<A: Form<u8>>()
+    ensures { (stop : ℕ) (read : Reader ℕ A) → IsNoStart A.text A.Fits stop → IsReading A.text A.Fits read
+        → IsReading (values_text A.text stop) (AllByRecursion A.Fits) (all_values_at stop read) }
+{}
+
+/// The law of machines: a machine that starts in a live state reads exactly the items that lead to its end. It does nothing.
+pub fn machines_read<E, V: Form<E>, S: State>()
+    ensures { ((x y : E) → (x ≡ y) ⊎ (x ≡ y → ⊥)) → (step : S → E → Step S V) (s : S) → IsLive step S.Live → S.Live s
+        → ((w : List E) (v : V) → Leads step s w v → V.Fits v × (V.text v ≡ w))
+        → ((v : V) → V.Fits v → Leads step s (V.text v) v) → IsReading V.text V.Fits (run_from step s) }
+{}
+
+/// The law of numbers: they are read exactly, with the byte behind them, which is no digit. It does nothing.
+pub fn numbers_are_read()
+    ensures alone { (stop low high : ℕ) → is_digit stop ≡ false → low ≤ high → high < 2 ^ 64
+        → IsReading (number_text stop) (IsFrom low high) (number_at stop low high) }
+    ensures behind { (literal : List ℕ) (stop low high : ℕ) → is_digit stop ≡ false → low ≤ high → high < 2 ^ 64
+        → IsReading (λ n. literal ++ number_text stop n) (IsFrom low high) (number_after literal stop low high) }
+{}
+
+/// The law of digits: numbers of so many digits are read exactly. It does nothing.
+pub fn digits_are_read()
+    ensures alone { (more low high : ℕ) → low ≤ high → high < 10 ^ suc more
+        → IsReading (digits_text (suc more)) (IsFrom low high) (digits_at more low high) }
+    ensures behind { (literal : List ℕ) (more low high : ℕ) → low ≤ high → high < 10 ^ suc more
+        → IsReading (λ n. literal ++ digits_text (suc more) n) (IsFrom low high) (digits_after literal more low high) }
+{}
