@@ -4,3 +4,4 @@ pub mod Fragments
 pub mod Links
 pub mod Moments
 pub mod Told
+pub mod ToldLinks
