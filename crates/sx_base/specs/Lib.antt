@@ -1,5 +1,6 @@
 pub mod Causes
 pub mod Entries
+pub mod FailingCalls
 pub mod Fragments
 pub mod Links
 pub mod Moments

@@ -1,6 +1,7 @@
 //! The outside of a program (bytes in, bytes out, moments), lists in contracts, and printing without memory.
 #![tactic(auto)]
 
+mod calls;
 mod clock;
 mod dialer;
 mod fault;

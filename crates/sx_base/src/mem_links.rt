@@ -1,6 +1,7 @@
-ghost use Rattle.std.specs.Prelude.{◌≡◌, ◌+◌, ◌<◌, ◌≤◌, ◌↔◌, [], IfOk, IsOk, IsOkAnd, IsTrue, Some, Ok, length};
+ghost use Rattle.std.specs.Prelude.{◌≡◌, ◌+◌, ◌<◌, ◌≤◌, ◌↔◌, [], IfOk, IsOk, IsOkAnd, IsTrue, OnOk, OnErr, slice_get, Some, Ok, length};
 ghost use Rattle.std.specs.Option.{option_map};
-ghost use Rattle.sx_base.specs.ToldLinks.{no_links, after_finished, Accepts, Gives};
+ghost use Rattle.sx_base.specs.ToldLinks.{no_links, after_finished, Accepts, Dials, Gives};
+ghost use Rattle.sx_base.specs.Causes.{HasCause};
 
 use crate::dialer::Dialer;
 use crate::fault::{Failed, NoMemory};
@@ -131,7 +132,11 @@ impl Listener for MemListener {
         Ok(Some(self.links.give()))
     }
 
-    fn finish(&mut self, link: MemLink) {
+    fn finish(&mut self, link: MemLink)
+        requires { 0 < self.old.links.given }
+        ensures links { self.new.links ≡ after_finished link self.old.links }
+        ensures faults { self.new.faults ≡ self.old.faults }
+    {
         self.links.finish(link);
     }
 
@@ -202,7 +207,14 @@ impl Dialer for MemDialer {
 
     ghost dial_count = { λ d. d.faults };
 
-    fn dial(&mut self, _port: u16) -> Result<MemLink, Failed> {
+    fn dial(&mut self, _port: u16) -> Result<MemLink, Failed>
+        ensures links { Dials (Some self.old.links) result (Some self.new.links) }
+        ensures reads { IfOk result (λ link. ⟦<MemLink as Source>⟧.read_count link ≡ 0) }
+        ensures writes { IfOk result (λ link. ⟦<MemLink as Sink>⟧.write_count link ≡ 0) }
+        ensures ok { OnOk result (self.new.faults ≡ self.old.faults) }
+        ensures cause { HasCause self.old.faults self.new.faults result }
+        ensures fails { OnErr result ((link : MemLink) → slice_get self.old.links.left 0 ≡ Some link → 0 < ⟦<MemLink as Source>⟧.read_count link + ⟦<MemLink as Sink>⟧.write_count link) }
+    {
         if !self.links.left.is_empty() && is_faultless(&self.links.left[0]) {
             return Ok(self.links.give());
         }
