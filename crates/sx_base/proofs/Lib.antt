@@ -1,3 +1,4 @@
+pub mod Calling
 pub mod Firsts
 pub mod Moments
 pub mod Printing

@@ -1,22 +1,33 @@
 //! The outside of a program (bytes in, bytes out, moments), lists in contracts, and printing without memory.
 #![tactic(auto)]
 
+mod calls;
 mod clock;
+mod dialer;
 mod fault;
 mod items;
 mod link;
+mod listener;
+mod loopback;
+mod mem_links;
 mod memory;
 mod printer;
+mod random;
 mod sink;
 mod source;
 mod system;
 
 pub use clock::{Clock, GREATEST_MOMENT, StepClock};
+pub use dialer::Dialer;
 pub use fault::{Failed, NoMemory};
 pub use items::Items;
 pub use link::{Both, Link};
+pub use listener::Listener;
+pub use loopback::{LoopbackDialer, LoopbackListener, TcpLink};
+pub use mem_links::{MemDialer, MemListener};
 pub use memory::{MemLink, MemSink, MemSource};
 pub use printer::{Fragment, print};
+pub use random::{Random, StepWords};
 pub use sink::Sink;
 pub use source::Source;
 pub use system::{Input, Output, SystemClock};

@@ -1,49 +1,15 @@
-ghost use Rattle.std.specs.Prelude.{◌≡◌, ◌+◌, ◌-◌, ◌^◌, ◌≤◌, ◌<◌, [], Some, IsErr, drop, take, length};
+ghost use Rattle.std.specs.Prelude.{◌≡◌, ◌+◌, ◌-◌, ◌^◌, ◌≤◌, ◌<◌, ◌++◌, [], Some, OnOk, OnErr, IsErr, IsTrue, is_err, min, drop, take, length};
+ghost use Rattle.std.specs.Io.{ReadsAtMost};
+ghost use Rattle.std.specs.Io.KnownBytes.{ReadConsumes};
 ghost use Rattle.sx_base.specs.Causes.{HasCause};
+ghost use Rattle.sx_base.specs.FailingCalls.{FailsAsListed, FailsWhereListed, is_next_listed, most_calls};
 
+use crate::calls::Calls;
 use crate::fault::Failed;
 use crate::link::Link;
 use crate::sink::Sink;
 use crate::source::Source;
 use std::alloc::Global;
-
-/// Counts the calls of a test object, and tells which of them are to fail.
-#[derive(Drop)]
-struct Calls {
-    failing: Vec<u64>,
-    made: u64,
-    faults: u64,
-}
-
-impl Calls {
-    fn new(failing: Vec<u64>) -> Calls
-        ensures { result.faults ≡ 0 }
-    {
-        Calls {
-            failing,
-            made: 0,
-            faults: 0,
-        }
-    }
-
-    /// Whether the next call is to fail.
-    fn next_fails(&mut self) -> bool
-        ensures { self.new.faults ≡ self.old.faults }
-    {
-        let call = self.made;
-        self.made = call.saturating_add(1);
-        self.failing.contains(&call)
-    }
-
-    /// Counts a fault.
-    fn fail<T>(&mut self) -> Result<T, Failed>
-        ensures cause { HasCause self.old.faults self.new.faults result }
-        ensures failed { IsErr result }
-    {
-        self.faults = self.faults.saturating_add(1);
-        Err(Failed)
-    }
-}
 
 /// A source over bytes in memory.
 ///
@@ -62,6 +28,7 @@ impl MemSource {
     pub fn new(bytes: Vec<u8>, chunk: usize, failing: Vec<u64>) -> MemSource
         ensures left { ⟦<MemSource as Source>⟧.left result ≡ Some bytes.items }
         ensures faults { ⟦<MemSource as Source>⟧.read_count result ≡ 0 }
+        ensures calls { result.calls ≡ record { failing = failing.items; made = 0; faults = 0 } }
     {
         MemSource {
             bytes,
@@ -73,17 +40,27 @@ impl MemSource {
 }
 
 impl Source for MemSource {
-    ghost use Rattle.std.specs.Prelude.{Some, drop, refl, ⊤};
+    ghost use Rattle.std.specs.Prelude.{Some, drop};
+    ghost use Rattle.sx_base.specs.FailingCalls.{FailsAsListed};
 
     ghost left = { λ s. Some (drop s.at s.bytes.items) };
 
     ghost read_count = { λ s. s.calls.faults };
 
-    ghost reads = { λ _ _. ⊤ };
+    ghost reads = { λ a b. FailsAsListed a.calls b.calls };
 
-    fn read(&mut self, into: &mut [u8]) -> Result<usize, Failed> {
-        if self.calls.next_fails() {
-            return self.calls.fail();
+    fn read(&mut self, into: &mut [u8]) -> Result<usize, Failed>
+        requires { 0 < length into.old }
+        ensures bound { ReadsAtMost result into.new }
+        ensures bytes { ReadConsumes (⟦<MemSource as Source>⟧.left self.old) (⟦<MemSource as Source>⟧.left self.new) result into.new }
+        ensures cause { HasCause self.old.calls.faults self.new.calls.faults result }
+        ensures step { FailsAsListed self.old.calls self.new.calls }
+        ensures fails { is_err result ≡ is_next_listed self.old.calls }
+        ensures made { self.new.calls.made ≡ min (self.old.calls.made + 1) most_calls }
+    {
+        match self.calls.next() {
+            Ok(()) => {}
+            Err(failed) => return Err(failed),
         }
         let count = copy_front(&self.bytes, self.at, self.chunk, into);
         self.at += count;
@@ -91,12 +68,14 @@ impl Source for MemSource {
     }
 
     fn read_faults(&self) -> u64 {
-        self.calls.faults
+        self.calls.faults()
     }
 
-    ghost reads_none = { λ _. tt };
+    ghost use Rattle.sx_base.specs.FailingCalls.{as_listed_none, as_listed_more};
 
-    ghost reads_more = { λ _ _ _ _ _. tt };
+    ghost reads_none = { λ a. as_listed_none a.calls };
+
+    ghost reads_more = { λ a b c h k. as_listed_more a.calls b.calls c.calls h k };
 }
 
 /// A sink into memory, which fails at the calls listed, counted from 0, and where no memory is left.
@@ -111,6 +90,7 @@ impl MemSink {
     pub fn new(alloc: Global, failing: Vec<u64>) -> MemSink
         ensures wrote { ⟦<MemSink as Sink>⟧.wrote result [] }
         ensures faults { ⟦<MemSink as Sink>⟧.write_count result ≡ 0 }
+        ensures calls { result.calls ≡ record { failing = failing.items; made = 0; faults = 0 } }
     {
         MemSink {
             bytes: Vec::new(alloc),
@@ -127,17 +107,26 @@ impl MemSink {
 }
 
 impl Sink for MemSink {
-    ghost use Rattle.std.specs.Prelude.{◌≡◌, ⊤};
+    ghost use Rattle.std.specs.Prelude.{◌≡◌};
+    ghost use Rattle.sx_base.specs.FailingCalls.{FailsWhereListed};
 
     ghost wrote = { λ s bytes. s.bytes.items ≡ bytes };
 
     ghost write_count = { λ s. s.calls.faults };
 
-    ghost puts = { λ _ _. ⊤ };
+    ghost puts = { λ a b. FailsWhereListed a.calls b.calls };
 
-    fn put(&mut self, bytes: &[u8]) -> Result<(), Failed> {
-        if self.calls.next_fails() {
-            return self.calls.fail();
+    fn put(&mut self, bytes: &[u8]) -> Result<(), Failed>
+        ensures ok { OnOk result (self.new.bytes.items ≡ self.old.bytes.items ++ bytes.now) }
+        ensures err { OnErr result (self.new.bytes.items ≡ self.old.bytes.items) }
+        ensures cause { HasCause self.old.calls.faults self.new.calls.faults result }
+        ensures step { FailsWhereListed self.old.calls self.new.calls }
+        ensures fails { IsTrue (is_next_listed self.old.calls) → IsErr result }
+        ensures made { self.new.calls.made ≡ min (self.old.calls.made + 1) most_calls }
+    {
+        match self.calls.next() {
+            Ok(()) => {}
+            Err(failed) => return Err(failed),
         }
         if self.bytes.extend_from_slice(bytes).is_err() {
             return self.calls.fail();
@@ -146,12 +135,14 @@ impl Sink for MemSink {
     }
 
     fn write_faults(&self) -> u64 {
-        self.calls.faults
+        self.calls.faults()
     }
 
-    ghost puts_none = { λ _. tt };
+    ghost use Rattle.sx_base.specs.FailingCalls.{where_listed_none, where_listed_more};
 
-    ghost puts_more = { λ _ _ _ _ _. tt };
+    ghost puts_none = { λ a. where_listed_none a.calls };
+
+    ghost puts_more = { λ a b c h k. where_listed_more a.calls b.calls c.calls h k };
 }
 
 /// Copies bytes from place `at` to the front of `into`: at most `most`, and at least one where both have one.
@@ -182,7 +173,7 @@ impl Source for MemLink {
 
     ghost read_count = { λ l. ⟦<MemSource as Source>⟧.read_count l.source };
 
-    ghost reads = { λ a b. (b.sink ≡ a.sink) × (b.peer ≡ a.peer) };
+    ghost reads = { λ a b. FailsAsListed a.source.calls b.source.calls × (b.sink ≡ a.sink) × (b.peer ≡ a.peer) };
 
     fn read(&mut self, into: &mut [u8]) -> Result<usize, Failed> {
         self.source.read(into)
@@ -193,10 +184,11 @@ impl Source for MemLink {
     }
 
     ghost use Rattle.std.proofs.Common.{refl, ◌∙◌};
+    ghost use Rattle.sx_base.specs.FailingCalls.{as_listed_none, as_listed_more};
 
-    ghost reads_none = { λ _. (refl, refl) };
+    ghost reads_none = { λ a. (as_listed_none a.source.calls, refl, refl) };
 
-    ghost reads_more = { λ _ _ _ h k. (k.0 ∙ h.0, k.1 ∙ h.1) };
+    ghost reads_more = { λ a b c h k. (as_listed_more a.source.calls b.source.calls c.source.calls h.0 k.0, k.1 ∙ h.1, k.2 ∙ h.2) };
 }
 
 impl Sink for MemLink {
@@ -204,7 +196,7 @@ impl Sink for MemLink {
 
     ghost write_count = { λ l. ⟦<MemSink as Sink>⟧.write_count l.sink };
 
-    ghost puts = { λ a b. (b.source ≡ a.source) × (b.peer ≡ a.peer) };
+    ghost puts = { λ a b. FailsWhereListed a.sink.calls b.sink.calls × (b.source ≡ a.source) × (b.peer ≡ a.peer) };
 
     fn put(&mut self, bytes: &[u8]) -> Result<(), Failed> {
         self.sink.put(bytes)
@@ -215,33 +207,35 @@ impl Sink for MemLink {
     }
 
     ghost use Rattle.std.proofs.Common.{refl, ◌∙◌};
+    ghost use Rattle.sx_base.specs.FailingCalls.{where_listed_none, where_listed_more};
 
-    ghost puts_none = { λ _. (refl, refl) };
+    ghost puts_none = { λ a. (where_listed_none a.sink.calls, refl, refl) };
 
-    ghost puts_more = { λ _ _ _ h k. (k.0 ∙ h.0, k.1 ∙ h.1) };
+    ghost puts_more = { λ a b c h k. (where_listed_more a.sink.calls b.sink.calls c.sink.calls h.0 k.0, k.1 ∙ h.1, k.2 ∙ h.2) };
 }
 
 impl Link for MemLink {
     ghost peer_of = { λ l. l.peer };
 
-    ghost calls = { λ a b. b.peer ≡ a.peer };
+    ghost calls = { λ a b. FailsAsListed a.source.calls b.source.calls × FailsWhereListed a.sink.calls b.sink.calls × (b.peer ≡ a.peer) };
 
     fn peer(&self) -> u32 {
         self.peer
     }
 
     ghost use Rattle.std.proofs.Common.{refl, ◌∙◌, ap};
+    ghost use Rattle.sx_base.specs.FailingCalls.{as_listed_none, as_listed_more, as_listed_same, where_listed_none, where_listed_more, where_listed_same};
     ghost use Rattle.sx_base.specs.Links.{same_written};
 
-    ghost calls_none = { λ _. refl };
+    ghost calls_none = { λ a. (as_listed_none a.source.calls, where_listed_none a.sink.calls, refl) };
 
-    ghost calls_more = { λ _ _ _ h k. k ∙ h };
+    ghost calls_more = { λ a b c h k. (as_listed_more a.source.calls b.source.calls c.source.calls h.0 k.0, where_listed_more a.sink.calls b.sink.calls c.sink.calls h.1 k.1, k.2 ∙ h.2) };
 
-    ghost read_calls = { λ _ _ h. h.1 };
+    ghost read_calls = { λ a b h. (h.0, where_listed_same a.sink.calls b.sink.calls (ap (λ s. s.calls) h.1), h.2) };
 
-    ghost put_calls = { λ _ _ h. h.1 };
+    ghost put_calls = { λ a b h. (as_listed_same a.source.calls b.source.calls (ap (λ s. s.calls) h.1), h.0, h.2) };
 
-    ghost read_keeps = { λ a b h. record { written = same_written ⟦<MemSink as Sink>⟧.wrote a.sink b.sink h.0; faults = ap ⟦<MemSink as Sink>⟧.write_count h.0; peer = h.1 } };
+    ghost read_keeps = { λ a b h. record { written = same_written ⟦<MemSink as Sink>⟧.wrote a.sink b.sink h.1; faults = ap ⟦<MemSink as Sink>⟧.write_count h.1; peer = h.2 } };
 
-    ghost put_keeps = { λ a b h. record { rest = ap ⟦<MemSource as Source>⟧.left h.0; faults = ap ⟦<MemSource as Source>⟧.read_count h.0; peer = h.1 } };
+    ghost put_keeps = { λ a b h. record { rest = ap ⟦<MemSource as Source>⟧.left h.1; faults = ap ⟦<MemSource as Source>⟧.read_count h.1; peer = h.2 } };
 }
