@@ -2,24 +2,32 @@
 #![tactic(auto)]
 
 mod clock;
+mod date;
 mod fault;
 mod items;
 mod link;
 mod memory;
+mod moment;
+mod moment_reader;
 mod printer;
 mod sink;
 mod source;
 mod system;
 
 pub use clock::{Clock, GREATEST_MOMENT, StepClock};
+pub use date::{print_date, printed_dates_are_read_back, read_date};
 pub use fault::{Failed, NoMemory};
 pub use items::Items;
 pub use link::{Both, Link};
 pub use memory::{MemLink, MemSink, MemSource};
+pub use moment::print_moment;
+pub use moment_reader::{BadMoment, printed_moments_are_read_back, read_moment};
 pub use printer::{Fragment, print};
 pub use sink::Sink;
 pub use source::Source;
 pub use system::{Input, Output, SystemClock};
 
+#[cfg(test)]
+mod moment_tests;
 #[cfg(test)]
 mod tests;
