@@ -1,6 +1,10 @@
 pub mod Calling
+pub mod CivilFields
 pub mod Firsts
+pub mod MomentReading
 pub mod Moments
 pub mod Printing
+pub mod SameForms
 pub mod Streams
 pub mod Writing
+pub mod Years

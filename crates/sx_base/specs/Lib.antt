@@ -1,8 +1,12 @@
 pub mod Causes
+pub mod Dates
 pub mod Entries
 pub mod FailingCalls
 pub mod Fragments
 pub mod Links
+pub mod MomentFields
 pub mod Moments
+pub mod MomentTexts
+pub mod MomentsRead
 pub mod Told
 pub mod ToldLinks

@@ -3,6 +3,7 @@
 
 mod calls;
 mod clock;
+mod date;
 mod dialer;
 mod fault;
 mod items;
@@ -11,6 +12,8 @@ mod listener;
 mod loopback;
 mod mem_links;
 mod memory;
+mod moment;
+mod moment_reader;
 mod printer;
 mod random;
 mod sink;
@@ -18,6 +21,7 @@ mod source;
 mod system;
 
 pub use clock::{Clock, GREATEST_MOMENT, StepClock};
+pub use date::{print_date, printed_dates_are_read_back, read_date};
 pub use dialer::Dialer;
 pub use fault::{Failed, NoMemory};
 pub use items::Items;
@@ -26,11 +30,15 @@ pub use listener::Listener;
 pub use loopback::{LoopbackDialer, LoopbackListener, TcpLink};
 pub use mem_links::{MemDialer, MemListener};
 pub use memory::{MemLink, MemSink, MemSource};
+pub use moment::print_moment;
+pub use moment_reader::{BadMoment, printed_moments_are_read_back, read_moment};
 pub use printer::{Fragment, print};
 pub use random::{Random, StepWords};
 pub use sink::Sink;
 pub use source::Source;
 pub use system::{Input, Output, SystemClock};
 
+#[cfg(test)]
+mod moment_tests;
 #[cfg(test)]
 mod tests;
