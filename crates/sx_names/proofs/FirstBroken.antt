@@ -15,10 +15,10 @@ module _ {X : Type 0} (p : X → Bool) where
   first_fails true n m =
       let same : nat_lt (1 + n) (suc m) ≡ nat_lt n m = grind (arith, nat_tests) in
       rw same (by (nat_lt n m))
-      where
-        by : (c : Bool) → is_none (cond c (Some (1 + n)) None) ≡ is_none (cond c (Some n) None)
-        by true = refl
-        by false = refl
+    where
+      by : (c : Bool) → is_none (cond c (Some (1 + n)) None) ≡ is_none (cond c (Some n) None)
+      by true = refl
+      by false = refl
   first_fails false n m =
       let starts : nat_lt 0 (suc m) ≡ true = grind (arith, nat_tests) in
       rw starts refl
@@ -57,7 +57,7 @@ at_most n m = grind (arith, nat_tests)
 part_tells : (k a b c : ℕ) (utf8 empty : Bool) (other : Option ℕ) (dots tail long : Bool) →
     (utf8 && (not empty && not long && is_none other && not dots && not tail))
     ≡ is_none (broken_or rule.Utf8 k (at_if (not utf8) a) (broken_or rule.Empty k (at_if empty 0) (broken_or rule.Char k other
-        (broken_or rule.Dot k (at_if dots 0) (broken_or rule.Tail k (at_if tail b) (broken_or rule.Long k (at_if long c) None))))))
+    (broken_or rule.Dot k (at_if dots 0) (broken_or rule.Tail k (at_if tail b) (broken_or rule.Long k (at_if long c) None))))))
 part_tells k a b c false empty other dots tail long = refl
 part_tells k a b c true true other dots tail long = refl
 part_tells k a b c true false (Some at) dots tail true = refl
@@ -72,7 +72,7 @@ part_tells k a b c true false None false false false = refl
 share_tells : (a : ℕ) (short long : Bool) (other : Option ℕ) (first last : Bool) (pair : Option ℕ) →
     (not short && not long && is_none other && first && last && is_none pair)
     ≡ is_none (broken_or rule.Short 0 (at_if short 0) (broken_or rule.Long 0 (at_if long 63) (broken_or rule.Char 0 other
-        (broken_or rule.Edge 0 (at_if (not first) 0) (broken_or rule.Edge 0 (at_if (not last) a) (broken_or rule.Hyphens 0 (option_map (λ k. k + 1) pair) None))))))
+    (broken_or rule.Edge 0 (at_if (not first) 0) (broken_or rule.Edge 0 (at_if (not last) a) (broken_or rule.Hyphens 0 (option_map (λ k. k + 1) pair) None))))))
 share_tells a true long other first last pair = refl
 share_tells a false true other first last pair = refl
 share_tells a false false (Some at) first last pair = refl
@@ -97,8 +97,8 @@ unfolding part_fault
 part_by k bs false e = rw e refl
 part_by k bs true e =
     rw (e, empty_chars bs e, at_most (length (chars bs)) 255, all_pass is_name_char (chars bs), ← mapped (char_place bs) (position is_other_char (chars bs)))
-      (part_tells k (utf8_front bs (length bs)) (length bs - 1) (char_place bs 255) true (length bs == 0) (option_map (char_place bs) (position is_other_char (chars bs)))
-        (is_dots bs) (has_bad_tail bs) (nat_lt 255 (length (chars bs))))
+    (part_tells k (utf8_front bs (length bs)) (length bs - 1) (char_place bs 255) true (length bs == 0) (option_map (char_place bs) (position is_other_char (chars bs)))
+    (is_dots bs) (has_bad_tail bs) (nat_lt 255 (length (chars bs))))
 
 -- a part is what breaks no rule of parts
 pub part_law : (k : ℕ) (bs : List ℕ) → is_part bs ≡ is_none (part_fault k bs)
@@ -112,8 +112,8 @@ pub share_law : (bs : List ℕ) → is_share_name bs ≡ is_none (share_fault bs
 unfolding share_fault
 share_law bs =
     rw (at_most 3 (length bs), at_most (length bs) 63, all_pass is_share_byte bs, any_found (is_hyphens_at bs) (range_with_len 0 (length bs)))
-      (share_tells (length bs - 1) (nat_lt (length bs) 3) (nat_lt 63 (length bs)) (position is_other_byte bs) (is_lower_or_digit (slice_index bs 0))
-        (is_lower_or_digit (slice_index bs (length bs - 1))) (find (is_hyphens_at bs) (range_with_len 0 (length bs))))
+    (share_tells (length bs - 1) (nat_lt (length bs) 3) (nat_lt 63 (length bs)) (position is_other_byte bs) (is_lower_or_digit (slice_index bs 0))
+    (is_lower_or_digit (slice_index bs (length bs - 1))) (find (is_hyphens_at bs) (range_with_len 0 (length bs))))
 
 -- all are parts exactly where none breaks a rule
 pub parts_law : (k : ℕ) (parts : List (List ℕ)) → list_all is_part parts ≡ is_none (parts_fault k parts)
@@ -126,4 +126,4 @@ pub path_law : (parts : List (List ℕ)) → is_path parts ≡ is_none (path_fau
 unfolding path_fault
 path_law parts =
     rw (parts_law 1 parts, at_most (length parts) 250, at_most (path_length parts) 2048)
-      (path_tells (parts_fault 1 parts) (nat_lt 250 (length parts)) (nat_lt 2048 (path_length parts)))
+    (path_tells (parts_fault 1 parts) (nat_lt 250 (length parts)) (nat_lt 2048 (path_length parts)))

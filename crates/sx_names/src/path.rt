@@ -118,9 +118,9 @@ fn parts_fault(parts: &[Text]) -> Option<NameFault>
     None
 }
 
-/// Whether at most 250 parts have more than 2,048 characters, with the slashes between them.
+/// Whether at most 2,048 parts have more than 2,048 characters, with the slashes between them.
 fn is_long(parts: &[Text]) -> bool
-    requires { length parts.now ≤ 250 }
+    requires { length parts.now ≤ 2048 }
     ensures { result ≡ nat_lt 2048 (path_length parts.now) }
 {
     let mut length = parts.len().saturating_sub(1);
