@@ -8,8 +8,8 @@ use Rattle.std.specs.String.{string_bytes}
 use Rattle.std.specs.Bool.{Decides}
 use Rattle.std.proofs.lemmas.Slice.Eq.{bytes_eq-Decides}
 use Rattle.sx_names.specs.Names.{is_share_name}
-use Rattle.sx_names.specs.declared.unnamed.Unnamed.{Unnamed}
-use Rattle.sx_names.specs.declared.unnamed.Unnamed.TheVariants.{Fault, NoMemory}
+use Rattle.sharebox.specs.declared.words.NoShare.{NoShare}
+use Rattle.sharebox.specs.declared.words.NoShare.TheVariants.{Unknown, NoMemory}
 use Rattle.sharebox.specs.Command.{IsSession}
 
 -- two words, by what indexing gives
@@ -29,15 +29,15 @@ same_if xs ys false d e = cc
 pub same_bytes : (xs ys : List ℕ) (differ : Bool) → differ ≡ false → differ ≡ not (bytes_eq xs ys) → xs ≡ ys
 same_bytes xs ys differ e h = same_if xs ys (bytes_eq xs ys) (bytes_eq-Decides xs ys) (sym h ∙ e)
 
-apart : {N : Type 0} (r : Result N Unnamed) → r ≡ Err Fault → r ≡ Err NoMemory → ⊥
+apart : {N : Type 0} (r : Result N NoShare) → r ≡ Err Unknown → r ≡ Err NoMemory → ⊥
 apart r a b = cc
 
 -- bytes that are read but for want of memory are a name
-pub named_by : {N : Type 0} (r : Result N Unnamed) (b : Bool) → (b ≡ false → IsErrOf r Fault) → IsErrOf r NoMemory → b ≡ true
+pub named_by : {N : Type 0} (r : Result N NoShare) (b : Bool) → (b ≡ false → IsErrOf r Unknown) → IsErrOf r NoMemory → b ≡ true
 named_by r true h e = refl
 named_by r false h e = absurd (apart r (h refl) e)
 
 -- the name that was read is the second word
-pub read_name : (r : Result (List ℕ) Unnamed) (words : List (List ℕ)) (bytes : List ℕ) → words ≡ codes "session" ∷ bytes ∷ [] → IfOk r (λ n. (n ≡ bytes) × (is_share_name bytes ≡ true)) → IfOk r (λ share. IsSession words share)
+pub read_name : (r : Result (List ℕ) NoShare) (words : List (List ℕ)) (bytes : List ℕ) → words ≡ codes "session" ∷ bytes ∷ [] → IfOk r (λ n. (n ≡ bytes) × (is_share_name bytes ≡ true)) → IfOk r (λ share. IsSession words share)
 read_name (Ok n) words bytes e h = (e ∙ ap (λ (w : List ℕ). codes "session" ∷ w ∷ []) (sym h.0), subst (λ (w : List ℕ). is_share_name w ≡ true) (sym h.0) h.1)
 read_name (Err x) words bytes e h = tt

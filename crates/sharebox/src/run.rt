@@ -5,12 +5,12 @@ ghost use Rattle.sx_base.specs.Moments.{greatest_moment};
 ghost use Rattle.sx_smb_door.specs.Conversation.{Conversation, Side, HasText, HasPrefix, with_entry};
 ghost use Rattle.sharebox.specs.Command.{Ran, IsDone, counted, creation, history_limit, input_budget, loopback, refusal_line, session_caller, status_of};
 
-use crate::words::session_share;
+use crate::words::{NoShare, session_share};
 use std::alloc::Global;
 use sx_base::{Both, Clock, NoMemory, Sink, Source};
 use sx_book::{Book, ConnEnd, ConnReport};
 use sx_call::{Call, Entry, Stop};
-use sx_names::{Quota, ShareName, Unnamed};
+use sx_names::{Quota, ShareName};
 use sx_smb_door::serve_session;
 
 /// The statuses of the program.
@@ -165,8 +165,8 @@ pub fn run<S: Source, K: Sink, C: Clock>(
 {
     match session_share(alloc, words) {
         Ok(share) => session(alloc, &share, input, out, clock),
-        Err(Unnamed::NoMemory) => NO_MEMORY,
-        Err(Unnamed::Fault) => {
+        Err(NoShare::NoMemory) => NO_MEMORY,
+        Err(NoShare::Unknown) => {
             // The words are refused where this can't be written, too.
             let _written = out.put(b"words refused\n");
             WORDS_REFUSED

@@ -1,10 +1,10 @@
-ghost use Rattle.std.specs.Prelude.{◌≡◌, true, false, IfOk, IsErrOf, ◌↔◌, bytes_eq, chars, length};
-ghost use Rattle.std.specs.List.{list_all};
-ghost use Rattle.std.specs.Prelude.{MatchOption};
+ghost use Rattle.std.specs.Prelude.{◌≡◌, ◌≤◌, true, false, is_none, IfOk, MatchResult, bytes_eq, chars, length};
+ghost use Rattle.std.specs.List.{position};
 ghost use Rattle.std.specs.Str.{is_utf8};
-ghost use Rattle.sx_names.specs.Names.{fold, is_part, names_part, has_name_length, is_name_char, is_dots, has_bad_tail};
+ghost use Rattle.sx_names.specs.Names.{fold, is_part, is_name_char, is_dots, has_bad_tail};
+ghost use Rattle.sx_names.specs.Rules.{part_fault, fault_in, utf8_front, char_place, is_other_char};
 
-use crate::unnamed::Unnamed;
+use crate::fault::{NameFault, NameRule, Unnamed};
 use std::alloc::Global;
 use std::marker::Model;
 use sx_base::{Items, NoMemory};
@@ -35,18 +35,30 @@ impl Model for Part {
 }
 
 impl Part {
-    /// Reads exactly the names of files and directories.
+    /// Reads exactly the names of files and directories, as part 1.
+    ///
+    /// The fault is the first rule that is broken, of `Utf8`, `Empty`, `Char`, `Dot`, `Tail` and `Long`. Its place is that of the
+    /// first character that breaks it: for `Utf8` the first byte at which the bytes are no UTF-8 any more, for `Tail` the last
+    /// byte, for `Long` the 256th character.
     pub fn read(alloc: Global, bytes: &[u8]) -> Result<Part, Unnamed>
         ensures name { IfOk result (λ n. (n ≡ bytes.now) × (is_part bytes.now ≡ true)) }
-        ensures fault { IsErrOf result Unnamed.Fault ↔ (is_part bytes.now ≡ false) }
+        ensures fault { fault_in result ≡ part_fault 1 bytes.now }
+        ensures rules { is_part bytes.now ≡ is_none (part_fault 1 bytes.now) }
     {
-        let Some(text) = as_text(bytes) else {
-            return Err(Unnamed::Fault);
-        };
-        if !names_part(text) {
-            return Err(Unnamed::Fault);
+        if let Some(fault) = part_fault(1, bytes) {
+            return Err(Unnamed::Fault(fault));
         }
-        Ok(kept_part(alloc, text)?)
+        Ok(Part::kept_of(alloc, bytes)?)
+    }
+
+    /// The name that bytes are which break no rule.
+    pub(crate) fn kept_of(alloc: Global, bytes: &[u8]) -> Result<Part, NoMemory>
+        requires { is_part bytes.now ≡ true }
+        ensures { IfOk result (λ n. n ≡ bytes.now) }
+    {
+        let kept = Items::copy_of(alloc, bytes)?;
+        let folded = folded_bytes(alloc, bytes)?;
+        Ok(Part { kept, folded })
     }
 
     /// An equal name of its own.
@@ -82,23 +94,60 @@ impl Part {
     }
 }
 
-/// The bytes as a text, where they are UTF-8.
-fn as_text(bytes: &[u8]) -> Option<&str>
-    ensures { MatchOption result (is_utf8 bytes.now ≡ false) (λ text. (text.now ≡ bytes.now) × (is_utf8 bytes.now ≡ true)) }
+/// The first rule that bytes break as the part with this number, if they break one.
+#[tactic(auto, unfolding(crate::specs::Rules::part_fault))]
+pub(crate) fn part_fault(part: u32, bytes: &[u8]) -> Option<NameFault>
+    ensures fault { result ≡ part_fault part bytes.now }
+    ensures rules { is_part bytes.now ≡ is_none (part_fault part bytes.now) }
 {
-    match std::str::from_utf8(bytes) {
-        Ok(text) => Some(text),
-        Err(_) => None,
+    match as_text(bytes) {
+        Ok(text) => text_fault(part, text),
+        Err(at) => NameFault::found(NameRule::Utf8, part, at),
     }
 }
 
-fn kept_part(alloc: Global, text: &str) -> Result<Part, NoMemory>
-    requires { is_part text.now ≡ true }
-    ensures { IfOk result (λ n. n ≡ text.now) }
+#[tactic(auto, unfolding(crate::specs::Rules::part_fault))]
+fn text_fault(part: u32, text: &str) -> Option<NameFault>
+    requires { is_utf8 text.now ≡ true }
+    ensures { result ≡ part_fault part text.now }
 {
-    let kept = Items::copy_of(alloc, text.as_bytes())?;
-    let folded = folded_text(alloc, text)?;
-    Ok(Part { kept, folded })
+    if text.is_empty() {
+        return NameFault::found(NameRule::Empty, part, 0);
+    }
+    if let Some(k) = other_char(text) {
+        return NameFault::found(NameRule::Char, part, char_place(text, k));
+    }
+    if is_dots(text.as_bytes()) {
+        return NameFault::found(NameRule::Dot, part, 0);
+    }
+    if has_bad_tail(text.as_bytes()) {
+        return NameFault::found(NameRule::Tail, part, text.len() - 1);
+    }
+    if 255 < count_chars(text) {
+        return NameFault::found(NameRule::Long, part, char_place(text, 255));
+    }
+    None
+}
+
+/// The bytes as a text, or else the place from which on they are no UTF-8.
+pub(crate) fn as_text(bytes: &[u8]) -> Result<&str, usize>
+    ensures { MatchResult result (λ text. (text.now ≡ bytes.now) × (is_utf8 bytes.now ≡ true)) (λ at. (at ≡ utf8_front bytes.now (length bytes.now)) × (is_utf8 bytes.now ≡ false)) }
+{
+    match std::str::from_utf8(bytes) {
+        Ok(text) => Ok(text),
+        Err(error) => Err(error.valid_up_to()),
+    }
+}
+
+#[tactic(auto, unfolding(crate::specs::Names::fold))]
+fn folded_bytes(alloc: Global, bytes: &[u8]) -> Result<Folded, NoMemory>
+    requires { is_part bytes.now ≡ true }
+    ensures { IfOk result (λ folded. folded ≡ fold bytes.now) }
+{
+    match as_text(bytes) {
+        Ok(text) => folded_text(alloc, text),
+        Err(_) => unreachable!(),
+    }
 }
 
 #[tactic(auto, unfolding(crate::specs::Names::fold))]
@@ -109,24 +158,26 @@ fn folded_text(alloc: Global, text: &str) -> Result<Folded, NoMemory>
     Ok(Items::of(folded.into_bytes()))
 }
 
-fn names_part(text: &str) -> bool
-    ensures { result ≡ names_part text.now }
+/// The number of the first character that no name has, counted from 0.
+fn other_char(text: &str) -> Option<usize>
+    ensures { result ≡ position is_other_char (chars text.now) }
 {
-    has_name_length(text)
-        && all_name_chars(text)
-        && !is_dots(text.as_bytes())
-        && !has_bad_tail(text.as_bytes())
+    text.chars().position(|c| !is_name_char(c))
 }
 
-fn has_name_length(text: &str) -> bool
-    ensures { result ≡ has_name_length text.now }
+/// The byte place of a character that is counted from 0, or the text's length past its end.
+fn char_place(text: &str, k: usize) -> usize
+    ensures { result ≡ char_place text.now k }
 {
-    let count = count_chars(text);
-    1 <= count && count <= 255
+    match text.char_indices().nth(k) {
+        Some((at, _)) => at,
+        None => text.len(),
+    }
 }
 
-fn count_chars(text: &str) -> usize
-    ensures { result ≡ length (chars text.now) }
+pub(crate) fn count_chars(text: &str) -> usize
+    ensures value { result ≡ length (chars text.now) }
+    ensures bound { result ≤ length text.now }
 {
     let mut count = 0;
     for _character in text.chars() {
@@ -139,12 +190,6 @@ fn is_dots(bytes: &[u8]) -> bool
     ensures { result ≡ is_dots bytes.now }
 {
     bytes == b".".as_slice() || bytes == b"..".as_slice()
-}
-
-fn all_name_chars(text: &str) -> bool
-    ensures { result ≡ list_all is_name_char (chars text.now) }
-{
-    text.chars().all(|c| is_name_char(c))
 }
 
 fn is_name_char(c: char) -> bool

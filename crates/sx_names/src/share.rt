@@ -1,9 +1,9 @@
-ghost use Rattle.std.specs.Prelude.{◌≡◌, true, false, IfOk, IsErrOf, ◌↔◌, bytes_eq};
-ghost use Rattle.std.specs.List.{list_all, list_any, range_with_len};
-ghost use Rattle.std.specs.Prelude.{◌<◌, length};
+ghost use Rattle.std.specs.Prelude.{◌≡◌, ◌<◌, true, is_none, IfOk, IfSome, bytes_eq, length};
+ghost use Rattle.std.specs.List.{find, position, range_with_len};
 ghost use Rattle.sx_names.specs.Names.{is_share_name, is_lower_or_digit, is_share_byte, is_hyphens_at};
+ghost use Rattle.sx_names.specs.Rules.{share_fault, fault_in, is_other_byte};
 
-use crate::unnamed::Unnamed;
+use crate::fault::{NameFault, NameRule, Unnamed};
 use std::alloc::Global;
 use std::marker::Model;
 use sx_base::{Items, NoMemory};
@@ -28,12 +28,17 @@ impl Model for ShareName {
 
 impl ShareName {
     /// Reads exactly the names of shares.
+    ///
+    /// The fault is the first rule that is broken, of `Short`, `Long`, `Char`, `Edge` and `Hyphens`, with part 0. Its place is 0
+    /// for `Short`, that of the 64th byte for `Long`, that of the second hyphen for `Hyphens`, and else that of the first byte
+    /// that breaks it.
     pub fn read(alloc: Global, bytes: &[u8]) -> Result<ShareName, Unnamed>
         ensures name { IfOk result (λ n. (n ≡ bytes.now) × (is_share_name bytes.now ≡ true)) }
-        ensures fault { IsErrOf result Unnamed.Fault ↔ (is_share_name bytes.now ≡ false) }
+        ensures fault { fault_in result ≡ share_fault bytes.now }
+        ensures rules { is_share_name bytes.now ≡ is_none (share_fault bytes.now) }
     {
-        if !is_share_name(bytes) {
-            return Err(Unnamed::Fault);
+        if let Some(fault) = share_fault(bytes) {
+            return Err(Unnamed::Fault(fault));
         }
         Ok(ShareName {
             bytes: Items::copy_of(alloc, bytes)?,
@@ -65,27 +70,47 @@ impl ShareName {
     }
 }
 
-fn is_share_name(bytes: &[u8]) -> bool
-    ensures { result ≡ is_share_name bytes.now }
+/// The first rule that bytes break as the name of a share, if they break one.
+#[tactic(auto, unfolding(crate::specs::Rules::share_fault))]
+fn share_fault(bytes: &[u8]) -> Option<NameFault>
+    ensures fault { result ≡ share_fault bytes.now }
+    ensures rules { is_share_name bytes.now ≡ is_none (share_fault bytes.now) }
 {
-    bytes.len() >= 3
-        && bytes.len() <= 63
-        && all_share_bytes(bytes)
-        && is_lower_or_digit(bytes[0])
-        && is_lower_or_digit(bytes[bytes.len() - 1])
-        && !has_hyphens(bytes)
+    if bytes.len() < 3 {
+        return NameFault::found(NameRule::Short, 0, 0);
+    }
+    if 63 < bytes.len() {
+        return NameFault::found(NameRule::Long, 0, 63);
+    }
+    if let Some(at) = other_byte(bytes) {
+        return NameFault::found(NameRule::Char, 0, at);
+    }
+    if !is_lower_or_digit(bytes[0]) {
+        return NameFault::found(NameRule::Edge, 0, 0);
+    }
+    let last = bytes.len() - 1;
+    if !is_lower_or_digit(bytes[last]) {
+        return NameFault::found(NameRule::Edge, 0, last);
+    }
+    if let Some(at) = hyphens(bytes) {
+        return NameFault::found(NameRule::Hyphens, 0, at + 1);
+    }
+    None
 }
 
-fn all_share_bytes(bytes: &[u8]) -> bool
-    ensures { result ≡ list_all is_share_byte bytes.now }
+/// The place of the first byte that no share name has.
+fn other_byte(bytes: &[u8]) -> Option<usize>
+    ensures { result ≡ position is_other_byte bytes.now }
 {
-    bytes.iter().all(|b| is_share_byte(*b))
+    bytes.iter().position(|b| !is_share_byte(*b))
 }
 
-fn has_hyphens(bytes: &[u8]) -> bool
-    ensures { result ≡ list_any (is_hyphens_at bytes.now) (range_with_len 0 (length bytes.now)) }
+/// The place of the first of two hyphens in a row.
+fn hyphens(bytes: &[u8]) -> Option<usize>
+    ensures first { result ≡ find (is_hyphens_at bytes.now) (range_with_len 0 (length bytes.now)) }
+    ensures within { IfSome result (λ at. at < length bytes.now) }
 {
-    (0..bytes.len()).any(|k| is_hyphens_at(bytes, k))
+    (0..bytes.len()).find(|k| is_hyphens_at(bytes, *k))
 }
 
 fn is_hyphens_at(bytes: &[u8], at: usize) -> bool

@@ -239,7 +239,7 @@ fn named_part(alloc: Global, name: &[u8]) -> Result<Option<Part>, NoMemory>
 {
     match Part::read(alloc, name) {
         Ok(part) => Ok(Some(part)),
-        Err(Unnamed::Fault) => Ok(None),
+        Err(Unnamed::Fault(_)) => Ok(None),
         Err(Unnamed::NoMemory) => Err(NoMemory),
     }
 }

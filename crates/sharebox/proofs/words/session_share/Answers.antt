@@ -10,7 +10,7 @@ returns-clause-share c =
     let both = two_words c.args.words.now c.index-words-0.result c.index-words-1.result c.if-words-ne2.false c.index-words-0.is c.index-words-1.is in
     let words : map string_bytes c.args.words.now ≡ codes "session" ∷ c.as_bytes.result.now ∷ [] =
     both ∙ ap (λ (w : List ℕ). w ∷ string_bytes c.index-words-1.result ∷ []) (sym c.as_str.ensures.value ∙ command) ∙ ap (λ (w : List ℕ). codes "session" ∷ w ∷ []) (sym c.as_bytes.ensures.value) in
-    read_name c.read.result (map string_bytes c.args.words.now) c.as_bytes.result.now words c.read.ensures.name
+    read_name c.read_share.result (map string_bytes c.args.words.now) c.as_bytes.result.now words c.read_share.ensures.name
 
 pub returns-clause-memory : goal.returns-clause-memory
 returns-clause-memory c e =
@@ -18,4 +18,4 @@ returns-clause-memory c e =
     let both = two_words c.args.words.now c.index-words-0.result c.index-words-1.result c.if-words-ne2.false c.index-words-0.is c.index-words-1.is in
     let words : map string_bytes c.args.words.now ≡ codes "session" ∷ c.as_bytes.result.now ∷ [] =
     both ∙ ap (λ (w : List ℕ). w ∷ string_bytes c.index-words-1.result ∷ []) (sym c.as_str.ensures.value ∙ command) ∙ ap (λ (w : List ℕ). codes "session" ∷ w ∷ []) (sym c.as_bytes.ensures.value) in
-    (c.as_bytes.result.now, (words, named_by c.read.result (is_share_name c.as_bytes.result.now) c.read.ensures.fault.1 e))
+    (c.as_bytes.result.now, (words, named_by c.read_share.result (is_share_name c.as_bytes.result.now) c.read_share.ensures.fault.1 e))

@@ -1,14 +1,14 @@
-use Rattle.std.proofs.Common.{◌≡◌, Bool, true, false, refl}
-use Rattle.std.specs.Str.{is_utf8}
-use Rattle.std.proofs.lemmas.Str.{IsUtf8-from_is_utf8, is_utf8-from_IsUtf8}
+use Rattle.std.proofs.Common.{arith, IsUtf8, sym, subst, take_all, take, ◌∙◌, ap, length}
+use Rattle.std.proofs.lemmas.Str.{is_utf8-from_IsUtf8}
+use Rattle.std.specs.Str.{IsValidUpTo}
+use Rattle.sx_names.proofs.Fronts.{not_utf8, front_is}
 use Rattle.sx_names.proofs.part.as_text.Goals as goal
-
-not_true : (b : Bool) → (b ≡ true → ⊥) → b ≡ false
-not_true true h = absurd (h refl)
-not_true false h = refl
 
 pub returns-in-Ok : goal.returns-in-Ok
 returns-in-Ok c = (c.in-Ok.ensures.cases.0, is_utf8-from_IsUtf8 c.args.bytes.now c.in-Ok.ensures.cases.1)
 
 pub returns-in-Err : goal.returns-in-Err
-returns-in-Err c = not_true (is_utf8 c.args.bytes.now) (λ e. c.in-Err.ensures.cases.0 (IsUtf8-from_is_utf8 c.args.bytes.now e))
+returns-in-Err c =
+    let bs = c.args.bytes.now in
+    let valid : IsValidUpTo bs c.valid_up_to.result = subst (IsValidUpTo bs) (sym c.valid_up_to.ensures) c.in-Err.ensures.cases.1 in
+    (sym (front_is bs c.valid_up_to.result (length bs) valid (omega (arith, valid.short))), not_utf8 bs c.in-Err.ensures.cases.0)

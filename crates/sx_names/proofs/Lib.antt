@@ -1,0 +1,3 @@
+pub mod FirstBroken
+pub mod Fronts
+pub mod Ordered

@@ -1,0 +1,22 @@
+use Rattle.std.proofs.Common.{◌≡◌, ◌≤◌, length, chars, IsUtf8, sym, ap, ◌∙◌, subst, arith, take_at, take_all, append-nil, refl, encode_utf8_all}
+use Rattle.std.proofs.lemmas.Grind.{common_steps}
+use Rattle.std.proofs.lemmas.List.{nil_from_length}
+use Rattle.std.proofs.lemmas.Str.{encodes-chars, chars-nil}
+use Rattle.sx_names.proofs.Fronts.{come_off, place_after}
+use Rattle.sx_names.proofs.part.char_place.Goals as goal
+
+pub returns-in-Some : goal.returns-in-Some
+returns-in-Some c =
+    let ran = c.in-Some.ensures.ran in
+    let made = c.char_indices.ensures in
+    let front = rw (made.rest, made.offset) at (come_off ran.0 _ ran.1.0 (subst IsUtf8 (sym made.rest) c.utf8.text) ran.1.1) in
+    rw ran.1.2.0 (place_after c.args.k front (rw front.read (take_at _ _ _ (grind (arith, common_steps, ran.2)))))
+
+pub returns-in-None : goal.returns-in-None
+returns-in-None c =
+    let ran = c.in-None.ensures.ran in
+    let made = c.char_indices.ensures in
+    let front = rw (made.rest, made.offset) at (come_off ran.0 _ ran.1.0 (subst IsUtf8 (sym made.rest) c.utf8.text) ran.1.1) in
+    let read = rw (nil_from_length _ ran.1.2.0, chars-nil, append-nil) at front.read in
+    let few : length (chars c.args.text.now) ≤ c.args.k = rw read (grind (arith, common_steps, ran.2)) in
+    rw (take_all _ _ few, encodes-chars _ c.utf8.text) refl
