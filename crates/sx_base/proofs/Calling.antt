@@ -1,5 +1,5 @@
 -- The next call of an object in memory.
-use Rattle.std.proofs.Common.{ℕ, ◌≡◌, ◌+◌, List, Bool, true, false, cond, refl, ap, arith, ◌∙◌}
+use Rattle.std.proofs.Common.{ℕ, ◌≡◌, ◌+◌, List, Bool, cond, refl, ap, arith}
 use Rattle.std.proofs.Math.Nat.{add-zero}
 use Rattle.sx_base.specs.FailingCalls.{lists, listed, FailsAsListed}
 

@@ -30,15 +30,6 @@ change_position p f xs i d e = let at = position-Some p xs i d e in change_here 
 pub find_position : {X : Type 0} (p : X → Bool) (xs : List X) (i : ℕ) (d : X) → position p xs ≡ Some i → find p xs ≡ Some (get_or xs i d)
 find_position p xs i d e = let at = position-Some p xs i d e in find_here p xs i d at.0 at.1 at.2
 
--- where nothing is found, nothing is changed
-pub change_none : {X : Type 0} (p : X → Bool) (f : X → X) (xs : List X) → find p xs ≡ None → xs ≡ change p f xs
-change_none p f [] e = refl
-change_none p f (x ∷ xs) e =
-    elim (p x) as (λ b. cond b (Some x) (find p xs) ≡ None → x ∷ xs ≡ cond b (f x ∷ xs) (x ∷ change p f xs)) [
-      | true ↦ λ h. cc
-      | false ↦ λ h. ap (λ ys. x ∷ ys) (change_none p f xs h)
-    ] e
-
 none_cond : (b : Bool) (i : ℕ) → cond b (Some i) None ≡ None → b ≡ false
 none_cond true i e = cc
 none_cond false i e = refl

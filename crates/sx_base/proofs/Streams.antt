@@ -16,12 +16,6 @@ keeps_more (Some xs) None c h k = absurd h
 keeps_more (Some xs) (Some ys) None h k = absurd k
 keeps_more (Some xs) (Some ys) (Some zs) h k = k ∙ h
 
--- bytes that were taken and are still held change nothing of the stream
-pub keeps_held : (held bytes : List ℕ) (a b : Option (List ℕ)) → Consumes a b bytes → Keeps (prepend_known held a) (prepend_known (held ++ bytes) b)
-keeps_held held bytes None b h = tt
-keeps_held held bytes (Some xs) None h = absurd h
-keeps_held held bytes (Some xs) (Some ys) h = append_assoc held bytes ys ∙ ap (λ zs. held ++ zs) (sym h)
-
 -- bytes taken from those that are held
 pub consumes_held : (held rest line : List ℕ) (a : Option (List ℕ)) → held ≡ line ++ rest → Consumes (prepend_known held a) (prepend_known rest a) line
 consumes_held held rest line None e = tt

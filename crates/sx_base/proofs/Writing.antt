@@ -1,11 +1,6 @@
 -- One writing after another.
-use Rattle.std.proofs.Common.{ℕ, List, [], ◌++◌, sym, ap, ◌∙◌, subst, append_assoc}
-use Rattle.std.proofs.lemmas.List.{append-nil}
+use Rattle.std.proofs.Common.{ℕ, List, ◌++◌, sym, ap, ◌∙◌, subst, append_assoc}
 use Rattle.sx_base.specs.Told.{Writes, WritesPrefix}
-
--- nothing was written
-pub writes_none : {K : Type 0} (wrote : K → List ℕ → Type 0) (a : K) → Writes wrote a a []
-writes_none wrote a = record { behind = λ m w. subst (wrote a) (sym (append-nil m)) w }
 
 -- the second text behind the first
 pub writes_more : {K : Type 0} (wrote : K → List ℕ → Type 0) (a b c : K) (x y : List ℕ) → Writes wrote a b x → Writes wrote b c y → Writes wrote a c (x ++ y)
@@ -26,7 +21,3 @@ prefix_longer wrote a b x y h = record {
       let p = h.behind m w in
       (p.0, (p.1.0 ++ y, sym (append_assoc p.0 p.1.0 y) ∙ ap (λ (t : List ℕ). t ++ y) p.1.1), p.2);
 }
-
--- a whole text is a prefix of itself
-pub prefix_whole : {K : Type 0} (wrote : K → List ℕ → Type 0) (a b : K) (x : List ℕ) → Writes wrote a b x → WritesPrefix wrote a b x
-prefix_whole wrote a b x h = record { behind = λ m w. (x, ([], append-nil x), h.behind m w) }

@@ -36,7 +36,10 @@ impl Clock for StepClock {
         told
     }
 
-    fn fork(&mut self) -> Self {
+    fn fork(&mut self) -> Self
+        ensures old { self.new ≡ self.old }
+        ensures same { result ≡ self.old }
+    {
         *self
     }
 }

@@ -1,4 +1,4 @@
-//! The outside of a program (bytes in, bytes out, moments), lists in contracts, and printing without memory.
+//! The outside of a program (bytes in and out, links, moments, random words), lists in contracts, and printing without memory.
 #![tactic(auto)]
 
 mod calls;
@@ -36,8 +36,10 @@ pub use printer::{Fragment, print};
 pub use random::{Random, StepWords};
 pub use sink::Sink;
 pub use source::Source;
-pub use system::{Input, Output, SystemClock};
+pub use system::{Input, Output, SystemClock, SystemRandom};
 
+#[cfg(test)]
+mod link_tests;
 #[cfg(test)]
 mod moment_tests;
 #[cfg(test)]

@@ -87,22 +87,22 @@ impl<'a, S: Source, K: Sink> Sink for Both<'a, S, K> {
 impl<'a, S: Source, K: Sink> Link for Both<'a, S, K> {
     ghost peer_of = { λ b. b.peer };
 
-    ghost calls = { λ a b. (b.source.ghost_name ≡ a.source.ghost_name) × (b.sink.ghost_name ≡ a.sink.ghost_name) × (b.peer ≡ a.peer) };
+    ghost calls = { λ a b. S.reads a.source.now b.source.now × K.puts a.sink.now b.sink.now × (b.source.ghost_name ≡ a.source.ghost_name) × (b.sink.ghost_name ≡ a.sink.ghost_name) × (b.peer ≡ a.peer) };
 
     fn peer(&self) -> u32 {
         self.peer
     }
 
-    ghost use Rattle.std.proofs.Common.{refl, ◌∙◌, ap};
+    ghost use Rattle.std.proofs.Common.{refl, sym, subst, ◌∙◌, ap};
     ghost use Rattle.sx_base.specs.Links.{same_written};
 
-    ghost calls_none = { λ a. (refl, refl, refl) };
+    ghost calls_none = { λ a. (S.reads_none a.source.now, K.puts_none a.sink.now, refl, refl, refl) };
 
-    ghost calls_more = { λ a b c h k. (k.0 ∙ h.0, k.1 ∙ h.1, k.2 ∙ h.2) };
+    ghost calls_more = { λ a b c h k. (S.reads_more a.source.now b.source.now c.source.now h.0 k.0, K.puts_more a.sink.now b.sink.now c.sink.now h.1 k.1, k.2 ∙ h.2, k.3 ∙ h.3, k.4 ∙ h.4) };
 
-    ghost read_calls = { λ a b h. (h.1, h.2, h.4) };
+    ghost read_calls = { λ a b h. (h.0, subst (K.puts a.sink.now) (sym h.3) (K.puts_none a.sink.now), h.1, h.2, h.4) };
 
-    ghost put_calls = { λ a b h. (h.2, h.1, h.4) };
+    ghost put_calls = { λ a b h. (subst (S.reads a.source.now) (sym h.3) (S.reads_none a.source.now), h.0, h.2, h.1, h.4) };
 
     ghost read_keeps = { λ a b h. record { written = same_written K.wrote a.sink.now b.sink.now h.3; faults = ap K.write_count h.3; peer = h.4 } };
 

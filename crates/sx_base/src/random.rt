@@ -7,7 +7,7 @@ pub trait Random: Sized + Send + Drop {
 
     /// The next word.
     fn word(&mut self) -> u64
-        ensures { draws self.old result self.new };
+        ensures step { draws self.old result self.new };
 
     /// A source of its own, for another thread. The source that is forked stays as it is.
     fn fork(&mut self) -> Self

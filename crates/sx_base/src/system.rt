@@ -2,9 +2,11 @@ ghost use Rattle.std.specs.Prelude.{◌≡◌, ◌≤◌, List, ℕ, None, ⊤};
 
 use crate::clock::{Clock, GREATEST_MOMENT};
 use crate::fault::Failed;
+use crate::random::Random;
 use crate::sink::Sink;
 use crate::source::Source;
 use std::io::{Read, Write};
+use std::random::RandomSource;
 use std::time::SystemTime;
 
 /// A source over any reader of std, as standard input. It tells no content.
@@ -130,5 +132,41 @@ fn capped(ticks: u128) -> u64 {
         ticks as u64
     } else {
         GREATEST_MOMENT
+    }
+}
+
+/// The system's random source, which tells any word.
+///
+/// Where the system gives no bytes, it tells the word behind the one that it told last.
+#[derive(Drop)]
+pub struct SystemRandom<R: RandomSource + Send + Drop + Copy> {
+    rt: R,
+    last: u64,
+}
+
+impl<R: RandomSource + Send + Drop + Copy> SystemRandom<R> {
+    /// The random source of this system.
+    pub fn new(rt: R) -> SystemRandom<R> {
+        SystemRandom { rt, last: 0 }
+    }
+}
+
+impl<R: RandomSource + Send + Drop + Copy> Random for SystemRandom<R> {
+    ghost draws = { λ _ _ _. ⊤ };
+
+    fn word(&mut self) -> u64 {
+        let mut bytes = [0u8; 8];
+        self.last = match self.rt.fill_bytes(&mut bytes) {
+            Ok(()) => u64::from_le_bytes(bytes),
+            Err(_) => self.last.wrapping_add(1),
+        };
+        self.last
+    }
+
+    fn fork(&mut self) -> Self {
+        SystemRandom {
+            rt: self.rt,
+            last: self.last,
+        }
     }
 }

@@ -1,4 +1,4 @@
-use Rattle.std.proofs.Common.{◌≡◌, ◌+◌, true, false, arith, subst, refl, sym, ap, ◌∙◌}
+use Rattle.std.proofs.Common.{◌≡◌, ◌+◌, true, false, subst, refl, sym, ap, ◌∙◌}
 use Rattle.std.specs.Prelude.{List, ℕ}
 use Rattle.std.proofs.Math.Nat.{add-zero}
 use Rattle.sx_base.specs.FailingCalls.{CallCounts, FailsAsListed, as_listed_none, lists}
