@@ -1,0 +1,5 @@
+pub mod Limits
+pub mod Heads
+pub mod Framings
+pub mod Readers
+pub mod RequestStream
