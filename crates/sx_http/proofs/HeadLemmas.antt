@@ -31,11 +31,10 @@ pub lower_text : (bs : List ℕ) → IsToken bs → IsUtf8 (lower bs)
 lower_text bs h =
     let t = token_is bs h in
     let some : 0 < length (lower bs) = omega (arith, length-map bs to_ascii_lowercase, h.0) in
-    IsUtf8-from_token (lower bs)
-    (
+    IsUtf8-from_token (lower bs) (
       some,
       All-map (λ b. token.is_token_byte b ≡ true) to_ascii_lowercase bs
-      (All-weaker (λ b. token.is_token_byte b ≡ true) (λ b. token.is_token_byte (to_ascii_lowercase b) ≡ true) is_token_byte-to_ascii_lowercase bs t.1),
+          (All-weaker (λ b. token.is_token_byte b ≡ true) (λ b. token.is_token_byte (to_ascii_lowercase b) ≡ true) is_token_byte-to_ascii_lowercase bs t.1),
     )
 
 pair_header : List ℕ × List ℕ → Header

@@ -1,5 +1,5 @@
 -- The heads of requests, by the grammar of RFC 9112, sections 2 to 5, as the crate httparse accepts it.
-use Rattle.std.specs.Prelude.{ℕ, ◌≡◌, ◌≤◌, ◌==◌, List, [], map, length, drop, Option, Some, None}
+use Rattle.std.specs.Prelude.{ℕ, ◌≡◌, ◌≤◌, ◌==◌, List, [], map, length, take, drop, Option, Some, None}
 use Rattle.std.specs.Char.{to_ascii_lowercase}
 use Rattle.httparse.specs.Grammar.{Field, field_value, RequestHead, print_request, ReadsRequest, HasNoRequest, NeverHasRequest, MayBecomeRequest}
 use Rattle.httparse.specs.Spans.{span_bytes}
@@ -41,6 +41,10 @@ pub record BeginsHead (bytes : List ℕ) (size : ℕ) (head : Head) : Type 0 whe
   pub reads : ReadsRequest bytes tree (drop size bytes)
   pub long : size ≡ length (print_request tree)
   pub is : head ≡ head_of tree
+
+-- the bytes among which a head has to be whole
+abbrev pub window : List ℕ → List ℕ
+window bytes = take head_limit bytes
 
 -- no head stands at the front, and one may yet come; where the bytes end in a target, whether it is UTF-8 is left open
 abbrev pub MayHaveHead : List ℕ → Type 0

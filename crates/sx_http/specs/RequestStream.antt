@@ -5,7 +5,7 @@ use Rattle.std.specs.Io.KnownBytes.{Keeps, Consumes, IsAtEnd, prepend_known}
 use Rattle.httparse.specs.Grammar.{RequestHead, print_request, ReadsRequest, NeverHasRequest}
 use Rattle.sx_base.specs.Causes.{Rose}
 use Rattle.sx_http.specs.Limits.{head_limit}
-use Rattle.sx_http.specs.Heads.{head_of, MayHaveHead}
+use Rattle.sx_http.specs.Heads.{head_of, window, MayHaveHead}
 use Rattle.sx_http.specs.Framings.{framing_of, facts_of, no_facts}
 use Rattle.sx_http.specs.Readers.{Requests}
 use Rattle.sx_http.specs.declared.heads.Request.{Request}
@@ -48,10 +48,6 @@ pub record LacksBody (bytes : List ℕ) : Type 0 where
 abbrev pub IsUnfinished : List ℕ → Type 0
 IsUnfinished bytes = (MayHaveHead bytes × (length bytes < head_limit)) ⊎ LacksBody bytes
 
--- the bytes among which a head has to be whole
-abbrev pub window : List ℕ → List ℕ
-window bytes = take head_limit bytes
-
 -- why nothing was given: by the place of the request's first byte, how many bytes may be taken from there on, and the bytes
 abbrev pub Reason : Next → ℕ → ℕ → List ℕ → Type 0
 Reason (Whole request) at room bytes = ⊥
@@ -71,35 +67,42 @@ Reason NoMemory at room bytes = Unit {0}
 abbrev pub stream : Requests → Option (List ℕ) → Option (List ℕ)
 stream reader left = prepend_known reader.held left
 
--- the reason holds of what is held, and of the whole stream where it is told; a fault is answered only where the count rose, and
--- where nothing whole is held
+-- what has to hold where a read failed
+abbrev pub OnReadFault : Next → Type 0 → Type 0
+OnReadFault ReadFault P = P
+OnReadFault next P = Unit {0}
+
+-- the reason holds of what is held, and of the whole stream where it is told; a failed read is answered only where the count rose,
+-- and where no whole request is held
 pub record Because (next : Next) (at room : ℕ) (held : List ℕ) (bytes : Option (List ℕ)) (before now : ℕ) : Type 0 where
   pub held_so : Reason next at room held
   pub told_so : IfSome bytes (Reason next at room)
-  pub fault : next ≡ ReadFault → Rose before now × IsUnfinished held
+  pub fault : OnReadFault next (Rose before now × IsUnfinished held)
 
 -- the bytes taken, as they are told after an answer
 abbrev pub counted : Next → Requests → ℕ
-counted (Cut left) reader = reader.taken + left
+counted (Cut left) reader = reader.given + left
 counted Spent reader = reader.budget
-counted next reader = reader.taken
+counted next reader = reader.given
 
 -- a request was taken off the stream
 pub record Gives (request : Request) (old new : Requests) (left left' : Option (List ℕ)) : Type 0 where
   pub text : List ℕ
   pub bytes : Consumes (stream old left) (stream new left') text
   pub is : IsRequest text request
-  pub taken : new.taken ≡ old.taken + length text
+  pub given : new.given ≡ old.given + length text
+  pub taken : new.taken ≡ new.given
   pub budget : new.budget ≡ old.budget
-  pub open_still : new.ended ≡ false
+  pub ended : new.ended ≡ old.ended
 
 -- nothing was given, and the reader has ended: the stream is as it was
 pub record Ends (next : Next) (old new : Requests) (left left' : Option (List ℕ)) (before now : ℕ) : Type 0 where
   pub bytes : Keeps (stream old left) (stream new left')
+  pub given : new.given ≡ old.given
   pub taken : new.taken ≡ counted next old
   pub budget : new.budget ≡ old.budget
   pub ended : new.ended ≡ true
-  pub because : Because next old.taken (old.budget - old.taken) new.held (stream old left) before now
+  pub because : Because next old.given (old.budget - old.given) new.held (stream old left) before now
 
 -- what a reader that hasn't ended answered, with what its source has left and its count of faults, before and after
 abbrev pub Answered : Next → Requests → Requests → Option (List ℕ) → Option (List ℕ) → ℕ → ℕ → Type 0

@@ -2,10 +2,14 @@
 #![tactic(auto)]
 
 mod facts;
+mod filling;
 mod framing;
 mod heads;
+mod judging;
 mod next;
 mod parse;
+mod print;
+mod reader;
 
 pub use facts::{HeadFacts, Version};
 pub use framing::{Framing, Stated};
@@ -13,3 +17,5 @@ pub use heads::{Head, Header, Request};
 pub use http::Method;
 pub use next::{Long, Next};
 pub use parse::read_head;
+pub use print::print_head;
+pub use reader::Reader;

@@ -1,8 +1,8 @@
-ghost use Rattle.std.specs.Prelude.{◌≡◌, ◌≤◌, ◌&&◌, nat_le, if◌then◌else◌, All, IfOk, Some, None, IsUtf8, length, map};
+ghost use Rattle.std.specs.Prelude.{◌≡◌, ◌≤◌, ◌&&◌, nat_le, if◌then◌else◌, All, IfOk, OnOk, Some, None, IsUtf8, length, drop, map};
 ghost use Rattle.httparse.specs.Grammar.{IsToken, RequestHead};
 ghost use Rattle.httparse.specs.Spans.{span_bytes, IsHeaderWithin, IsRequestAt, IsRequestOf, IsRequestWithin};
 ghost use Rattle.sx_http.specs.Limits.{head_limit, header_limit, slot_count};
-ghost use Rattle.sx_http.specs.Heads.{lower, head_of, header_at, HeadFor, IsParsed};
+ghost use Rattle.sx_http.specs.Heads.{lower, head_of, header_at, window, HeadFor, IsParsed};
 
 use crate::framing::HEADER_LIMIT;
 use crate::heads::{Head, Header};
@@ -60,15 +60,44 @@ fn within_limits(head: Head, is_all: bool) -> Option<Head>
 }
 
 /// Empty slots for the headers of a head.
-pub(crate) fn slots(alloc: Global) -> Result<Vec<HeaderSpan>, NoMemory>
+fn slots(alloc: Global) -> Result<Vec<HeaderSpan>, NoMemory>
     ensures { IfOk result (λ slots. length slots.items ≡ slot_count) }
 {
     let slots = vec![in alloc; EMPTY_HEADER_SPAN; SLOTS]?;
     Ok(slots)
 }
 
+/// Parses the head that begins at `start`, for which it looks at 65,536 bytes at most. The slots are made at first use.
+pub(crate) fn parse_front(
+    alloc: Global,
+    buffer: &[u8],
+    start: usize,
+    room: &mut Vec<HeaderSpan>,
+) -> Parsed
+    requires { start ≤ length buffer.now }
+    ensures { IsParsed (window (drop start buffer.now)) result }
+{
+    match make_ready(alloc, room) {
+        Ok(()) => {}
+        Err(_) => return Parsed::NoMemory,
+    }
+    let end = start + (buffer.len() - start).min(HEAD_LIMIT);
+    parse_head(alloc, &buffer[start..end], room)
+}
+
+/// Makes the slots, where they are not there yet.
+fn make_ready(alloc: Global, room: &mut Vec<HeaderSpan>) -> Result<(), NoMemory>
+    ensures { OnOk result (length room.new.items ≡ slot_count) }
+{
+    if room.len() == SLOTS {
+        return Ok(());
+    }
+    *room = slots(alloc)?;
+    Ok(())
+}
+
 /// Parses the head at the front of the bytes, over slots that are there for this alone.
-pub(crate) fn parse_head(alloc: Global, bytes: &[u8], slots: &mut [HeaderSpan]) -> Parsed
+fn parse_head(alloc: Global, bytes: &[u8], slots: &mut [HeaderSpan]) -> Parsed
     requires short { length bytes.now ≤ head_limit }
     requires wide { length slots.old ≡ slot_count }
     ensures { IsParsed bytes.now result }
