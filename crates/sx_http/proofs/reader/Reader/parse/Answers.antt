@@ -7,4 +7,4 @@ pub returns-clause-parsed : goal.returns-clause-parsed
 returns-clause-parsed c =
     let P : List ℕ → Type 0 = λ bs. IsParsed (window (drop c.self.inside.start bs)) c.parse_front.result in
     let Q : Requests → Type 0 = λ r. IsParsed (window r.held) c.parse_front.result in
-    subst Q c.self.view_is (subst P c.deref.ensures c.parse_front.ensures)
+    subst Q c.self.view_is (subst P c.deref.ensures.value c.parse_front.ensures)
