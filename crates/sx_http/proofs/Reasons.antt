@@ -1,24 +1,23 @@
 -- Why nothing is given, and what is given.
-use Rattle.std.proofs.Common.{ℕ, zero, suc, ◌+◌, ◌-◌, ◌<◌, ◌≤◌, ◌≡◌, ◌⊎◌, inl, inr, List, [], ◌∷◌, ◌++◌, length, take, drop, refl, sym, ap, ◌∙◌, subst, arith, min, append_assoc, length-append, length-take, Result}
+use Rattle.std.proofs.Common.{ℕ, zero, suc, ◌+◌, ◌-◌, ◌<◌, ◌≤◌, ◌≡◌, inl, inr, List, [], ◌∷◌, ◌++◌, length, take, drop, refl, sym, ap, ◌∙◌, subst, arith, min, append_assoc, length-append, length-take, Result}
 use Rattle.std.specs.Prelude.{MatchResult, Ok, Err}
 use Rattle.std.specs.declared.option.Option.{Option}
 use Rattle.std.specs.Io.KnownBytes.{IsAtEnd}
 use Rattle.std.proofs.Math.Seq.{take-add, take-append_seam, drop-append_seam, take-length}
 use Rattle.std.proofs.lemmas.Bool.{cases_lt}
 use Rattle.std.proofs.lemmas.List.{append-nil, length-drop, take_all, take-append-le, take-append-drop}
-use Rattle.httparse.specs.Grammar.{RequestHead, print_request, ReadsRequest, HasNoRequest, NeverHasRequest}
+use Rattle.httparse.specs.Grammar.{print_request, ReadsRequest, HasNoRequest, NeverHasRequest}
 use Rattle.httparse.proofs.GrammarLemmas.{ReadsRequest-append}
 use Rattle.sx_base.specs.Causes.{Rose}
 use Rattle.sx_base.proofs.Streams.{consumes_held}
 use Rattle.sx_http.specs.Limits.{head_limit}
-use Rattle.sx_http.specs.Heads.{head_of, window, BeginsHead, MayHaveHead}
+use Rattle.sx_http.specs.Heads.{window, BeginsHead, MayHaveHead}
 use Rattle.sx_http.specs.Framings.{framing_of}
 use Rattle.sx_http.specs.Readers.{Requests}
-use Rattle.sx_http.specs.RequestStream.{stream, Reason, OnReadFault, Because, Gives, IsRequest, IsUnfinished, LacksBody}
+use Rattle.sx_http.specs.RequestStream.{stream, Reason, Gives, IsUnfinished}
 use Rattle.sx_http.specs.Filling.{Stays, Stops, Grows, HoldsHead}
 use Rattle.sx_http.specs.Refusals.{Refuses, long_head, ended_with}
 use Rattle.sx_http.specs.declared.heads.Head.{Head}
-use Rattle.sx_http.specs.declared.heads.Request.{Request}
 use Rattle.sx_http.specs.declared.framing.Framing.TheVariants.{Body}
 use Rattle.sx_http.specs.declared.judging.WholeHead.{WholeHead}
 use Rattle.sx_http.specs.declared.next.Next.{Next}

@@ -1,7 +1,7 @@
 -- Requests on a stream, and what a reader of requests answers.
-use Rattle.std.specs.Prelude.{ℕ, ◌+◌, ◌-◌, ◌<◌, ◌≤◌, ◌≡◌, ◌⊎◌, Bool, true, false, List, [], length, take, IfSome}
+use Rattle.std.specs.Prelude.{ℕ, ◌+◌, ◌-◌, ◌<◌, ◌≤◌, ◌≡◌, ◌⊎◌, true, List, [], length, take, IfSome}
 use Rattle.std.specs.declared.option.Option.{Option}
-use Rattle.std.specs.Io.KnownBytes.{Keeps, Consumes, IsAtEnd, prepend_known}
+use Rattle.std.specs.Io.KnownBytes.{Keeps, Consumes, prepend_known}
 use Rattle.httparse.specs.Grammar.{RequestHead, print_request, ReadsRequest, NeverHasRequest}
 use Rattle.sx_base.specs.Causes.{Rose}
 use Rattle.sx_http.specs.Limits.{head_limit}
@@ -12,7 +12,6 @@ use Rattle.sx_http.specs.declared.heads.Request.{Request}
 use Rattle.sx_http.specs.declared.facts.HeadFacts.{HeadFacts}
 use Rattle.sx_http.specs.declared.framing.Framing.{Framing}
 use Rattle.sx_http.specs.declared.framing.Framing.TheVariants.{Body, TooManyHeaders, NoLength, BadLength, LongBody}
-use Rattle.sx_http.specs.declared.next.Long.{Long}
 use Rattle.sx_http.specs.declared.next.Long.TheVariants.{Head as OfHead, Headers as OfHeaders, Body as OfBody}
 use Rattle.sx_http.specs.declared.next.Next.{Next}
 use Rattle.sx_http.specs.declared.next.Next.TheVariants.{Whole, End, Cut, BadHead, NoLength as LacksLength, BadLength as HasBadLength, TooLong, Spent, ReadFault, NoMemory}

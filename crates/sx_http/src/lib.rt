@@ -19,3 +19,6 @@ pub use next::{Long, Next};
 pub use parse::read_head;
 pub use print::print_head;
 pub use reader::Reader;
+
+#[cfg(test)]
+mod tests;

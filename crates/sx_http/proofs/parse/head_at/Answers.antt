@@ -1,8 +1,6 @@
-use Rattle.std.proofs.Common.{ℕ, ◌≡◌, ◌==◌, List, map, take, ◌∙◌}
+use Rattle.std.proofs.Common.{◌≡◌, ◌==◌, map, take, ◌∙◌}
 use Rattle.httparse.specs.Spans.{span_bytes}
 use Rattle.sx_http.specs.Heads.{header_at}
-use Rattle.sx_http.specs.declared.heads.Header.{Header}
-use Rattle.sx_http.specs.declared.heads.Head.{Head}
 use Rattle.sx_http.proofs.HeadLemmas.{names_are, same_head, head_is}
 use Rattle.sx_http.proofs.parse.head_at.Goals as goal
 

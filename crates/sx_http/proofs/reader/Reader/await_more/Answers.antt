@@ -1,4 +1,4 @@
-use Rattle.std.proofs.Common.{◌≡◌, ◌≤◌, ◌<◌, ◌-◌, ◌∙◌, length, ap, sym, arith, subst, ℕ}
+use Rattle.std.proofs.Common.{◌≡◌, ◌≤◌, ◌<◌, ◌-◌, length, ap, sym, arith, subst}
 use Rattle.sx_http.specs.Readers.{Requests}
 use Rattle.sx_http.specs.Filling.{Stops}
 use Rattle.sx_http.specs.declared.next.Next.{Next}

@@ -1,4 +1,4 @@
-use Rattle.std.proofs.Common.{ℕ, ◌+◌, ◌∙◌, length, sym, arith}
+use Rattle.std.proofs.Common.{◌+◌, ◌∙◌, length, sym, arith}
 use Rattle.std.proofs.lemmas.Bool.{ltb-true}
 use Rattle.sx_http.proofs.Answering.{stays_same, stays_more, stops_more}
 use Rattle.sx_http.proofs.Reasons.{body_lacks, head_grown}

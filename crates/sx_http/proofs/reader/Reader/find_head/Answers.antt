@@ -1,4 +1,4 @@
-use Rattle.std.proofs.Common.{ℕ, ◌≡◌, ◌<◌, ◌≤◌, ◌∙◌, length, ap, sym, subst, arith}
+use Rattle.std.proofs.Common.{◌≡◌, ◌<◌, ◌≤◌, ◌∙◌, length, ap, sym, subst, arith}
 use Rattle.sx_http.specs.Limits.{head_limit}
 use Rattle.sx_http.specs.Readers.{Requests}
 use Rattle.sx_http.specs.Heads.{window, BeginsHead, MayHaveHead}
