@@ -1,5 +1,5 @@
 -- A name is what breaks no rule.
-use Rattle.std.proofs.Common.{encode_utf8_all, ◌≡◌, ℕ, zero, suc, ◌+◌, ◌-◌, ◌≤◌, ◌<◌, ◌==◌, Bool, true, false, cond, not, ◌&&◌, ◌||◌, List, [], ◌∷◌, map, length, chars, refl, sym, ap, ◌∙◌, arith, nat_lt, nat_le, Option, Some, None, is_none, is_some, min, codes, slice_index}
+use Rattle.std.proofs.Common.{encode_utf8_all, ◌≡◌, ℕ, suc, ◌+◌, ◌-◌, ◌==◌, Bool, true, false, cond, not, ◌&&◌, ◌||◌, List, [], ◌∷◌, length, chars, refl, sym, ap, ◌∙◌, arith, nat_lt, nat_le, Option, Some, None, is_none, is_some, min, slice_index}
 use Rattle.std.specs.Option.{option_or, option_map}
 use Rattle.std.specs.List.{list_all, list_any, position, position_or_len, find, range_with_len}
 use Rattle.std.specs.Str.{is_utf8}
@@ -8,7 +8,7 @@ use Rattle.std.proofs.lemmas.Bool.Decides.{nat_tests}
 use Rattle.sx_names.specs.declared.fault.NameRule.TheVariants as rule
 use Rattle.sx_names.specs.declared.fault.NameFault.{NameFault}
 use Rattle.sx_names.specs.Names.{is_part, is_share_name, is_path, is_name_char, is_share_byte, is_dots, has_bad_tail, is_hyphens_at, is_lower_or_digit, path_length}
-use Rattle.sx_names.specs.Rules.{part_rules, part_fault, share_fault, parts_fault, path_fault, broken_or, at_if, char_place, utf8_front, is_other_char, is_other_byte}
+use Rattle.sx_names.specs.Rules.{part_fault, share_fault, parts_fault, path_fault, broken_or, at_if, char_place, utf8_front, is_other_char, is_other_byte}
 
 module _ {X : Type 0} (p : X → Bool) where
   first_fails : (b : Bool) (n m : ℕ) → is_none (cond (nat_lt (cond (not (not b)) (1 + n) 0) (suc m)) (Some (cond (not (not b)) (1 + n) 0)) None) ≡ (b && is_none (cond (nat_lt n m) (Some n) None))

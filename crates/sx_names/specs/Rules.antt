@@ -1,5 +1,5 @@
 -- The rules of names in the order in which they are tried, and the first that is broken.
-use Rattle.std.specs.Prelude.{ℕ, zero, suc, ◌+◌, ◌-◌, ◌==◌, Bool, not, nat_lt, if◌then◌else◌, List, [], ◌∷◌, ◌++◌, length, Option, Some, None, Result, Ok, Err, chars, encode_utf8_all, take, slice_index, min}
+use Rattle.std.specs.Prelude.{ℕ, zero, suc, ◌+◌, ◌-◌, ◌==◌, Bool, not, nat_lt, if◌then◌else◌, List, [], ◌∷◌, length, Option, Some, None, Result, Ok, Err, chars, encode_utf8_all, take, slice_index, min}
 use Rattle.std.specs.Option.{option_or, option_map}
 use Rattle.std.specs.List.{find, position, range_with_len}
 use Rattle.std.specs.Str.{is_utf8}

@@ -1,4 +1,4 @@
-use Rattle.std.proofs.Common.{arith, IsUtf8, sym, subst, take_all, take, ◌∙◌, ap, length}
+use Rattle.std.proofs.Common.{arith, sym, subst, length}
 use Rattle.std.proofs.lemmas.Str.{is_utf8-from_IsUtf8}
 use Rattle.std.specs.Str.{IsValidUpTo}
 use Rattle.sx_names.proofs.Fronts.{not_utf8, front_is}

@@ -1,4 +1,4 @@
-use Rattle.std.proofs.Common.{◌≡◌, ◌≤◌, length, chars, IsUtf8, sym, ap, ◌∙◌, subst, arith, take_at, take_all, append-nil, refl, encode_utf8_all}
+use Rattle.std.proofs.Common.{◌≤◌, length, chars, IsUtf8, sym, subst, arith, take_at, take_all, append-nil, refl}
 use Rattle.std.proofs.lemmas.Grind.{common_steps}
 use Rattle.std.proofs.lemmas.List.{nil_from_length}
 use Rattle.std.proofs.lemmas.Str.{encodes-chars, chars-nil}
