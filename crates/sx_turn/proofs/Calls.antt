@@ -1,10 +1,9 @@
 -- What the steps of one call tell together.
 use Rattle.std.proofs.Common.{◌≡◌, inl, ℕ, ◌<◌, ◌≤◌, true, false, List, [], ◌∷◌, refl, ap, sym, ◌∙◌, subst, arith, Option, Some, None}
-use mathlib.Core.List.{IsPrefix}
 use Rattle.atomic_table.specs.Table.{Me, rest}
 use Rattle.sx_turn.specs.declared.rule.View.{View}
 use Rattle.sx_turn.specs.Places.{Each, once_below}
-use Rattle.sx_turn.specs.Views.{times_owned, owned_count, with_ticket, in_turn, with_count, with_number, newcomer, after_next, after_turn, with_closed, enrolled_view}
+use Rattle.sx_turn.specs.Views.{times_owned, owned_count, with_ticket, in_turn, with_count, with_number, newcomer, after_next, after_turn, with_closed, enrolled_view, Extends}
 use Rattle.sx_turn.specs.Moves.{TurnBegins, MayEnd, TurnEnds, TakenOut, IsClosed, StillOut, CallersCounted, CountedInTurn, NumberDrawn}
 use Rattle.sx_turn.proofs.Places.{grown_same}
 
@@ -17,7 +16,7 @@ module _ {B E : Type 0} (stands : B → List E) (who : E → ℕ) where
   count_call m a b c t n drawn beg counted = let y : B = beg.0 in
       let e : b ≡ (in_turn (stands y) (with_ticket t m.0), (0, Some y) ∷ []) = beg.1 ∙ ap (λ (z : M). let r : M = (in_turn (stands y) z.0, (0, Some y) ∷ []) in r) drawn in
       let k = subst (λ (z : M). CallersCounted who z n c) e counted (stands y) refl in
-      (y, t, k.0, subst (λ (z : M). IsPrefix z.0.seen (stands y)) drawn beg.2.0, k.1, k.2, k.3, k.4, k.5, k.6)
+      (y, t, k.0, subst (λ (z : M). Extends who z.0 (stands y)) drawn beg.2, k.1, k.2, k.3, k.4, k.5, k.6, k.7)
 
   -- a new view that has counted is in its turn without a number
   pub enrol_counted : (m c : M) (n : ℕ) → m ≡ (newcomer m.0.seen m.0.known, []) → CountedInTurn stands who m n c
@@ -41,7 +40,7 @@ module _ {B E : Type 0} (stands : B → List E) (who : E → ℕ) where
       did ∙ (ap (λ (x : ℕ × M). let q : M = (with_number x.0 x.1.0, x.1.1) in q) (λ j. (same j, k.2 j)) ∙ ap (λ (z : M). let q : M = (with_number n (with_count n (in_turn (stands y) (with_ticket k.1 z.0))), (0, Some y) ∷ []) in q) fresh) in
       let gone : e ≡ (after_next (stands y) d.0, []) = left y (ap (λ (z : M). z.1) is) in (
         stands y,
-        k.3,
+        k.3.0,
         k.6,
         k.5,
         k.8,
@@ -56,7 +55,7 @@ module _ {B E : Type 0} (stands : B → List E) (who : E → ℕ) where
       let is : c ≡ (with_count n (in_turn (stands y) (with_ticket k.1 (newcomer m.0.seen m.0.known))), (0, Some y) ∷ []) = k.2 ∙ ap (λ (z : M). let q : M = (with_count n (in_turn (stands y) (with_ticket k.1 z.0)), (0, Some y) ∷ []) in q) fresh in
       let gone : e ≡ (after_next (stands y) c.0, []) = left y (ap (λ (z : M). z.1) is) in (
         stands y,
-        k.3,
+        k.3.0,
         k.6,
         k.5,
         k.8,
@@ -80,7 +79,7 @@ module _ {B E : Type 0} (stands : B → List E) (who : E → ℕ) where
   close_call m c e d n owns v k own all took left emptied = let y : B = k.0 in
       let hand : c.1 ≡ (0, Some y) ∷ [] = ap (λ (z : M). z.1) k.2 in
       let same : y ≡ v = some_same y v (ap in_hand (sym hand ∙ took)) in
-      let least = k.7 in let count : n ≡ owned_count m.0 = omega arith in
+      let least = k.7 in let knew = k.4 in let count : n ≡ owned_count m.0 = omega arith in
       let r = k.9 (omega arith) in
       let turn : d.0.turn ≡ Some (stands y) = ap (λ (z : M). z.0.turn) emptied ∙ (ap (λ (z : M). z.0.turn) left ∙ ap (λ (z : M). z.0.turn) k.2) in (
         (
@@ -91,16 +90,18 @@ module _ {B E : Type 0} (stands : B → List E) (who : E → ℕ) where
             r.2,
             subst (λ (z : ℕ). (i : ℕ) → times_owned i m.0 ≡ once_below i z) count r.3,
           ),
+          omega arith,
         ),
         (ap (λ (z : M). z.0.closed) emptied, (stands y, turn), ap (λ (z : M). z.1) emptied),
       )
 
   -- the moves of a refused close: counted, and the turn ended
-  pub still_out_call : (m c e : M) (n owns : ℕ) → m.1 ≡ [] → CountedInTurn stands who m n c → owns < n → TurnEnds stands c e → StillOut {B = B} owns m n e
+  pub still_out_call : (m c e : M) (n owns : ℕ) → m.1 ≡ [] → CountedInTurn stands who m n c → owns < n → TurnEnds stands c e → StillOut {B = B} who owns m n e
   still_out_call m c e n owns none_held k out left = let y : B = k.0 in
       let gone : e ≡ (after_next (stands y) c.0, []) = left y (ap (λ (z : M). z.1) k.2) in (
         out,
         k.6,
         k.4,
+        k.10,
         (stands y, gone ∙ (ap (λ (z : M). let q : M = (after_next (stands y) z.0, []) in q) k.2 ∙ ap (λ (l : List ℕ). let q : M = (record (after_turn (stands y) l m.0) { known = n; closed = false }, []) in q) (grown_same (Some (stands y)) m.0.mine (stands y) refl)), k.3),
       )

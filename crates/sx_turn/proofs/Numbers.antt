@@ -177,6 +177,7 @@ module _ {B E : Type 0} (stands : B → List E) (who : E → ℕ) where
             each_map _ _ (λ p q. q.1) (owned_pairs v) f.history.exact,
             subst (λ (z : ℕ). (n : ℕ) → times_owned n v ≡ once_below n z) (sym now) r.2,
           ),
+          λ q. let every = h.numbers q in let once = once_one q k.2 in let share = total_at (times_owned q) s.views id v at in omega arith,
         ),
       )
 

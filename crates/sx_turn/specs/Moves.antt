@@ -6,7 +6,7 @@ use Rattle.atomic_table.specs.Table.{Me, Step}
 use Rattle.atomic_table.specs.Seated.{TableId}
 use Rattle.sx_turn.specs.declared.rule.View.{View}
 use Rattle.sx_turn.specs.Places.{Each}
-use Rattle.sx_turn.specs.Views.{owned_count, with_ticket, in_turn, with_count, with_number, after_turn, after_next, with_closed, newcomer, enrolled_view, Extends, SeesAll, IsSound}
+use Rattle.sx_turn.specs.Views.{owned_count, times_owned, with_ticket, in_turn, with_count, with_number, after_turn, after_next, with_closed, newcomer, enrolled_view, Extends, SeesAll, IsSound}
 
 -- a table of three words and one slot
 abbrev pub IsBoard : TableId → Type 0
@@ -64,7 +64,7 @@ module _ {B E : Type 0} where
   abbrev pub CallersCounted : (E → ℕ) → SeatMe B E → ℕ → SeatMe B E → Type 0
   CallersCounted who m n m' = (h : List E) → m.0.turn ≡ Some h
       → (m' ≡ (with_count n m.0, m.1)) × (m.0.known ≤ n) × (1 ≤ n) × (n ≤ 64) × (owned_count m.0 ≤ n) × Each (λ e. who e < n) h
-      × (n ≤ owned_count m.0 → SeesAll who n m.0 h)
+      × (n ≤ owned_count m.0 → SeesAll who n m.0 h) × ((k : ℕ) → times_owned k m.0 ≤ 1)
 
   -- count: the callers are counted
   abbrev pub CountTells : (E → ℕ) → BoardStep B → SeatMe B E → ℕ → SeatMe B E → Type 0
@@ -73,8 +73,8 @@ module _ {B E : Type 0} where
   -- the turn has begun, and the callers are counted in it
   abbrev pub CountedInTurn : (B → List E) → (E → ℕ) → SeatMe B E → ℕ → SeatMe B E → Type 0
   CountedInTurn stands who m n m' = (y : B) × (t : ℕ) × (m' ≡ (with_count n (in_turn (stands y) (with_ticket t m.0)), (0, Some y) ∷ []))
-      × IsPrefix m.0.seen (stands y) × (m.0.known ≤ n) × (1 ≤ n) × (n ≤ 64) × (owned_count m.0 ≤ n) × Each (λ e. who e < n) (stands y)
-      × (n ≤ owned_count m.0 → SeesAll who n m.0 (stands y))
+      × Extends who m.0 (stands y) × (m.0.known ≤ n) × (1 ≤ n) × (n ≤ 64) × (owned_count m.0 ≤ n) × Each (λ e. who e < n) (stands y)
+      × (n ≤ owned_count m.0 → SeesAll who n m.0 (stands y)) × ((k : ℕ) → times_owned k m.0 ≤ 1)
 
   -- enrol: the seat has the number that was next
   abbrev pub EnrolTells : BoardStep B → SeatMe B E → ℕ → SeatMe B E → Type 0
@@ -97,11 +97,11 @@ module _ {B E : Type 0} where
   abbrev pub IsClosed : SeatMe B E → Type 0
   IsClosed m = (m.0.closed ≡ true) × ((h : List E) × (m.0.turn ≡ Some h)) × (m.1 ≡ [])
 
-  -- the value that was taken out stands for the list that was seen, and the seat owns all numbers
+  -- the value that was taken out stands for the list that was seen, and the seat owns all numbers, of which it knew no others
   abbrev pub TakenOut : (B → List E) → (E → ℕ) → View E → B → Type 0
-  TakenOut stands who v y = (stands y ≡ v.seen) × SeesAll who (owned_count v) v v.seen
+  TakenOut stands who v y = (stands y ≡ v.seen) × SeesAll who (owned_count v) v v.seen × (v.known ≤ owned_count v)
 
-  -- more numbers were given out than the seat owns, and the seat has seen the list so far
-  abbrev pub StillOut : ℕ → SeatMe B E → ℕ → SeatMe B E → Type 0
-  StillOut owns m n m' = (owns < n) × (n ≤ 64) × (m.0.known ≤ n)
-      × ((h : List E) × (m' ≡ (record (after_turn h m.0.mine m.0) { known = n; closed = false }, [])) × IsPrefix m.0.seen h)
+  -- more numbers were given out than the seat owns, each of which it owns once, and the seat has seen the list so far
+  abbrev pub StillOut : (E → ℕ) → ℕ → SeatMe B E → ℕ → SeatMe B E → Type 0
+  StillOut who owns m n m' = (owns < n) × (n ≤ 64) × (m.0.known ≤ n) × ((k : ℕ) → times_owned k m.0 ≤ 1)
+      × ((h : List E) × (m' ≡ (record (after_turn h m.0.mine m.0) { known = n; closed = false }, [])) × Extends who m.0 h)

@@ -158,7 +158,7 @@ pub(crate) fn take_out<B: Booked, R: Wait>(
     requires owns { owns ≡ owned_count place.old.me.0 }
     ensures same { (place.new.table_id ≡ place.old.table_id) × (place.new.id ≡ place.old.id) }
     ensures ok { IfOk result (λ v. TakenOut B.stands B.who place.old.me.0 v × IsClosed place.new.me) }
-    ensures err { IfErr result (λ n. StillOut owns place.old.me n place.new.me) }
+    ensures err { IfErr result (λ n. StillOut B.who owns place.old.me n place.new.me) }
 {
     let callers = count_callers(rt, board, place);
     if callers <= owns {

@@ -5,7 +5,7 @@ ghost use Rattle.sx_turn.specs.declared.turn.SeatFault.TheVariants.{NoSeat};
 ghost use Rattle.sx_turn.specs.Places.{Each};
 ghost use Rattle.sx_turn.specs.Seats.{pairs_of, HasPlacesIn, IsExact, HasNumbersBelow, HasDistinctNumbers, HasAllNumbers, OwnsEachEntry, HasEntriesBelow, first_seat, new_seat, after_take, MayGive, after_give, after_look, after_join};
 
-use crate::plays::{Branch, Merge};
+use crate::plays::Branch;
 use crate::rule::{Board, Booked};
 use crate::seat::{Held, Seat};
 use crate::steps::{
@@ -84,12 +84,14 @@ impl<B: Booked> Turn<B> {
         ensures new { IfOk result (λ s. s ≡ new_seat self.now s.number s.seen) }
         ensures number { IfOk result (λ s. (s.number < 64) × (seat.old.known ≤ s.number)) }
 
-        // Nobody that the asking seat knows of has the number, and no entry that was made by then.
+        // No number that the asking seat knows of is this one, and no entry that was made by then has it.
         ensures unused { IfOk result (λ s. HasNumbersBelow s.number seat.old × HasEntriesBelow B.who s.number s.seen) }
 
         ensures asked { IfOk result (λ s. seat.new ≡ after_look s.seen (s.number + 1) seat.old) }
-        ensures refused { IfErr result (λ f. (f ≡ NoSeat 64) × (seat.new ≡ after_look seat.new.seen 64 seat.old)) }
-        ensures seen { IsPrefix seat.old.seen seat.new.seen }
+        ensures refused { IfErr result (λ f. (f ≡ NoSeat 64) × (seat.new ≡ after_look seat.new.seen 64 seat.old) × (seat.old.known ≤ 64)) }
+
+        // What the asking seat has newly seen are entries of others.
+        ensures seen { IsPrefix seat.old.seen seat.new.seen × HasPlacesIn B.who seat.new.seen seat.old }
     {
         let board = &self.table.shared;
         let mut place = board.split_seat::<Branch>(&mut seat.place);
@@ -97,14 +99,14 @@ impl<B: Booked> Turn<B> {
         if callers < SEATS {
             // A copy of the new seat's view tells the asking one what that has seen.
             let note = board.split_seat::<Branch>(&mut place);
-            board.join_seat::<Merge>(&mut seat.place, note);
+            take_in(board, &mut seat.place, note);
             return Ok(Seat {
                 place,
                 number: callers as u32,
                 owns: 1,
             });
         }
-        board.join_seat::<Merge>(&mut seat.place, place);
+        take_in(board, &mut seat.place, place);
         Err(SeatFault::NoSeat(callers))
     }
 
@@ -161,11 +163,15 @@ impl<B: Booked> Turn<B> {
 
         ensures value { IfOk result (λ v. B.stands v ≡ seat.seen) }
         ensures all { IfOk result (λ _. HasAllNumbers seat × OwnsEachEntry B.who seat × IsExact B.who seat) }
+        ensures known { IfOk result (λ _. seat.known ≤ length (pairs_of seat)) }
 
         // `known` of the seat that comes back is how many numbers were given out.
         ensures out { IfErr result (λ f. (1 ≤ f.out) × (f.out + length (pairs_of seat) ≡ f.token.known)) }
         ensures back { IfErr result (λ f. (f.whole ≡ self) × (f.token ≡ after_look f.token.seen f.token.known seat)) }
-        ensures seen { IfErr result (λ f. IsPrefix seat.seen f.token.seen) }
+        ensures numbers { IfErr result (λ f. (seat.known ≤ f.token.known) × HasNumbersBelow f.token.known seat × HasDistinctNumbers seat) }
+
+        // What it has newly seen are entries of others.
+        ensures seen { IfErr result (λ f. IsPrefix seat.seen f.token.seen × HasPlacesIn B.who f.token.seen seat) }
     {
         let Turn { table } = self;
         let Seat {
