@@ -60,7 +60,7 @@ impl<B: Booked> Turn<B> {
     /// For want of memory the value comes back.
     pub fn begin(alloc: Global, value: B) -> Result<(Turn<B>, Seat<B>), B>
         requires { Each (λ e. B.who e ≡ 0) (B.stands value) }
-        ensures ok { IfOk result (λ t. t.1 ≡ first_seat B.who t.0 (B.stands value)) }
+        ensures ok { IfOk result (λ t. t.1 ≡ first_seat B.who t.0 (B.lasting value) (B.stands value)) }
         ensures err { IfErr result (λ v. v ≡ value) }
     {
         let about = Snapshot::of(&value);
@@ -81,7 +81,7 @@ impl<B: Booked> Turn<B> {
         requires own { seat.old.turn ≡ self.now }
         requires idle { seat.old.taken ≡ None }
 
-        ensures new { IfOk result (λ s. s ≡ new_seat self.now s.number s.seen) }
+        ensures new { IfOk result (λ s. s ≡ new_seat self.now seat.old.lasting s.number s.seen) }
         ensures number { IfOk result (λ s. (s.number < 64) × (seat.old.known ≤ s.number)) }
 
         // No number that the asking seat knows of is this one, and no entry that was made by then has it.
@@ -132,6 +132,7 @@ impl<B: Booked> Turn<B> {
 
     /// Waits for the seat's turn, and takes the value. It stands for a list that begins with what the seat has
     /// seen, in which the entries of the seat's numbers are those at the places that it kept, and no others.
+    /// Its lasting number is the one that the seat knows.
     pub fn take<R: Wait>(&self, rt: &R, seat: &mut Seat<B>) -> Held<B>
         requires own { seat.old.turn ≡ self.now }
         requires idle { seat.old.taken ≡ None }
@@ -139,16 +140,18 @@ impl<B: Booked> Turn<B> {
         ensures taken { seat.new ≡ after_take (B.stands result) seat.old }
         ensures seen { IsPrefix seat.old.seen (B.stands result) }
         ensures exact { HasPlacesIn B.who (B.stands result) seat.old }
+        ensures lasting { B.lasting result ≡ seat.old.lasting }
     {
         let value = take_value(rt, &self.table.shared, &mut seat.place);
         Held { value }
     }
 
     /// Gives the value back, which stands for the list for which it stood at the take, or for that and one entry
-    /// of the seat's number behind it. The seat has then seen that list, and has the place of the new entry.
+    /// of the seat's number behind it, and whose lasting number is the same. The seat has then seen that list, and has
+    /// the place of the new entry.
     pub fn give(&self, seat: &mut Seat<B>, held: Held<B>)
         requires own { seat.old.turn ≡ self.now }
-        requires may { MayGive B.who seat.old (B.stands held) }
+        requires may { MayGive B.who seat.old (B.lasting held) (B.stands held) }
         ensures given { seat.new ≡ after_give (B.stands held) seat.old }
     {
         let Held { value } = held;
@@ -161,7 +164,7 @@ impl<B: Booked> Turn<B> {
         requires own { seat.turn ≡ self }
         requires idle { seat.taken ≡ None }
 
-        ensures value { IfOk result (λ v. B.stands v ≡ seat.seen) }
+        ensures value { IfOk result (λ v. (B.stands v ≡ seat.seen) × (B.lasting v ≡ seat.lasting)) }
         ensures all { IfOk result (λ _. HasAllNumbers seat × OwnsEachEntry B.who seat × IsExact B.who seat) }
         ensures known { IfOk result (λ _. seat.known ≤ length (pairs_of seat)) }
 

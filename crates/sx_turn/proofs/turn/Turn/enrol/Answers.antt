@@ -4,10 +4,10 @@ use Rattle.sx_turn.proofs.Hands.{idle_hands}
 use Rattle.sx_turn.proofs.turn.Turn.enrol.Goals as goal
 
 pub split_seat-place-requires : goal.split_seat-place-requires
-split_seat-place-requires g c = (search rules, search rules, branch_keeps g.B.Booked.stands g.B.Booked.who _ c.seat.inside.place.me.0)
+split_seat-place-requires g c = (search rules, search rules, branch_keeps g.B.Booked.stands g.B.Booked.lasting _ g.B.Booked.who _ c.seat.inside.place.me.0)
 
 pub split_seat-note-requires : goal.split_seat-note-requires
-split_seat-note-requires g c = (search rules, search rules, branch_keeps g.B.Booked.stands g.B.Booked.who _ c.draw_number-callers.new.place.me.0)
+split_seat-note-requires g c = (search rules, search rules, branch_keeps g.B.Booked.stands g.B.Booked.lasting _ g.B.Booked.who _ c.draw_number-callers.new.place.me.0)
 
 pub take_in-requires-clause-idle : goal.take_in-requires-clause-idle
 take_in-requires-clause-idle g c κs within =
