@@ -124,7 +124,7 @@ module _ {B E : Type 0} (stands : B → List E) (lasts : B → ℕ) (fixed : ℕ
           set-get_or s.words 1 0 ∙ k.4,
           subst (λ (x : List (maybe.Option S) × List E). H k.0 k.1 k.2 k.3 x.0 (set s.views id (in_turn x.1 me.0))) (λ j. (set (sym home.1 j) 0 none, sym home.2 j)) (look_holds k.0 k.1 k.2 k.3 s.homes s.views id me.0 at served h home),
         ),
-        ((λ _. (home.0, refl, (subst (λ (l : List E). IsPrefix me.0.seen l) (sym home.2) (h.each id me.0 at).history.seen, subst (λ (l : List E). Each (λ p. p.1 ≡ places who p.0 l) (owned_pairs me.0)) (sym home.2) (each_map _ _ (λ p q. q.0) (owned_pairs me.0) (h.each id me.0 at).history.exact)), λ l e. home.4 ∙ sym (h.lasting id me.0 l at e))), λ miss. absurd (miss hit)),
+        ((λ _. (home.0, refl, (subst (λ (l : List E). IsPrefix me.0.seen l) (sym home.2) (h.each id me.0 at).history.seen, subst (λ (l : List E). Each (λ p. p.1 ≡ places who p.0 l) (owned_pairs me.0)) (sym home.2) (each_map _ _ (λ p q. q.0) (owned_pairs me.0) (h.each id me.0 at).history.exact), each_map _ _ (λ p q. q.1) (owned_pairs me.0) (h.each id me.0 at).history.exact), λ l e. home.4 ∙ sym (h.lasting id me.0 l at e))), λ miss. absurd (miss hit)),
       ))
       (λ (out : IsOut stands lasts fixed who k.3 s.homes s.views).
       let it = out in let its = (h.each it.0 it.1 it.2).queue.turn k.3 it.3 in

@@ -79,9 +79,9 @@ module _ {E : Type 0} where
   abbrev pub OwnsPlacesIn : (E → ℕ) → List E → View E → Type 0
   OwnsPlacesIn who log v = Each (λ p. p.1 ≡ places who p.0 log) (owned_pairs v)
 
-  -- the list begins with what the view has seen, and each number that the view owns has there the places that it kept
+  -- the list begins with what the view has seen, and each number that the view owns has the places that it kept, in the list and in what was seen
   abbrev pub Extends : (E → ℕ) → View E → List E → Type 0
-  Extends who v log = IsPrefix v.seen log × OwnsPlacesIn who log v
+  Extends who v log = IsPrefix v.seen log × OwnsPlacesIn who log v × OwnsPlacesIn who v.seen v
 
   -- the view owns all of the n numbers: then it has seen the whole list, and each entry has one of its numbers
   abbrev pub SeesAll : (E → ℕ) → ℕ → View E → List E → Type 0

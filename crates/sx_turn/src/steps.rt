@@ -134,6 +134,16 @@ pub(crate) fn draw_number<B: Booked, R: Wait>(
     callers
 }
 
+// Recalls what the seat knows.
+pub(crate) fn recall<B: Booked>(board: &SharedBoard<B>, place: &mut Place<B>)
+    requires board { (place.old.table_id ≡ board.now.table_id) × IsBoard board.now.table_id }
+    ensures same { (place.new.table_id ≡ place.old.table_id) × (place.new.id ≡ place.old.id) }
+    ensures me { place.new.me ≡ place.old.me }
+    ensures sound { IsSound B.who place.new.me.0 }
+{
+    board.load::<Recall>(place, 0);
+}
+
 // Takes in another seat, and recalls what the seat then knows.
 pub(crate) fn take_in<B: Booked>(board: &SharedBoard<B>, place: &mut Place<B>, other: Place<B>)
     requires board { (place.old.table_id ≡ board.now.table_id) × (other.table_id ≡ board.now.table_id) × IsBoard board.now.table_id }

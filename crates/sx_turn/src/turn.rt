@@ -9,7 +9,8 @@ use crate::plays::Branch;
 use crate::rule::{Board, Booked};
 use crate::seat::{Held, Seat};
 use crate::steps::{
-    SEATS, draw_number, free_board, give_value, one_slot, open_board, take_in, take_out, take_value,
+    SEATS, draw_number, free_board, give_value, one_slot, open_board, recall, take_in, take_out,
+    take_value,
 };
 use std::alloc::Global;
 use std::marker::Model;
@@ -91,9 +92,10 @@ impl<B: Booked> Turn<B> {
         ensures refused { IfErr result (λ f. (f ≡ NoSeat 64) × (seat.new ≡ after_look seat.new.seen 64 seat.old) × (seat.old.known ≤ 64)) }
 
         // What the asking seat has newly seen are entries of others.
-        ensures seen { IsPrefix seat.old.seen seat.new.seen × HasPlacesIn B.who seat.new.seen seat.old }
+        ensures seen { IsPrefix seat.old.seen seat.new.seen × HasPlacesIn B.who seat.new.seen seat.old × IsExact B.who seat.old }
     {
         let board = &self.table.shared;
+        recall(board, &mut seat.place);
         let mut place = board.split_seat::<Branch>(&mut seat.place);
         let callers = draw_number(rt, board, &mut place);
         if callers < SEATS {
@@ -139,7 +141,7 @@ impl<B: Booked> Turn<B> {
 
         ensures taken { seat.new ≡ after_take (B.stands result) seat.old }
         ensures seen { IsPrefix seat.old.seen (B.stands result) }
-        ensures exact { HasPlacesIn B.who (B.stands result) seat.old }
+        ensures exact { HasPlacesIn B.who (B.stands result) seat.old × IsExact B.who seat.old }
         ensures lasting { B.lasting result ≡ seat.old.lasting }
     {
         let value = take_value(rt, &self.table.shared, &mut seat.place);
@@ -174,7 +176,7 @@ impl<B: Booked> Turn<B> {
         ensures numbers { IfErr result (λ f. (seat.known ≤ f.token.known) × HasNumbersBelow f.token.known seat × HasDistinctNumbers seat) }
 
         // What it has newly seen are entries of others.
-        ensures seen { IfErr result (λ f. IsPrefix seat.seen f.token.seen × HasPlacesIn B.who f.token.seen seat) }
+        ensures seen { IfErr result (λ f. IsPrefix seat.seen f.token.seen × HasPlacesIn B.who f.token.seen seat × IsExact B.who seat) }
     {
         let Turn { table } = self;
         let Seat {
