@@ -1,3 +1,4 @@
 pub mod Book
 pub mod Opens
+pub mod Passes
 pub mod State

@@ -1,4 +1,8 @@
+ghost use Rattle.std.specs.Prelude.{◌≡◌, IfOk};
+
 use crate::view::Update;
+use std::alloc::Global;
+use sx_base::NoMemory;
 use sx_guard::{Access, Mode};
 use sx_names::{Path, Quota, ShareName};
 
@@ -72,6 +76,43 @@ impl Call {
             Call::Start { .. } | Call::End | Call::SmbClose { .. } | Call::SmbRead { .. } => {}
         }
     }
+
+    /// An equal call of its own.
+    pub fn copy(&self, alloc: Global) -> Result<Call, NoMemory>
+        ensures { IfOk result (λ c. c ≡ self.now) }
+    {
+        Ok(match self {
+            Call::CreateShare { share, quota } => Call::CreateShare {
+                share: share.copy(alloc)?,
+                quota: *quota,
+            },
+            Call::Start { peer } => Call::Start { peer: *peer },
+            Call::End => Call::End,
+            Call::SmbOpen {
+                share,
+                path,
+                access,
+                mode,
+                how,
+            } => Call::SmbOpen {
+                share: share.copy(alloc)?,
+                path: path.copy(alloc)?,
+                access: *access,
+                mode: *mode,
+                how: *how,
+            },
+            Call::SmbClose { index } => Call::SmbClose { index: *index },
+            Call::SmbRead { index, at, count } => Call::SmbRead {
+                index: *index,
+                at: *at,
+                count: *count,
+            },
+            Call::SmbWrite { index, update } => Call::SmbWrite {
+                index: *index,
+                update: update.copy(alloc)?,
+            },
+        })
+    }
 }
 
 /// One place of the history: who called, in which session (0 where there is none), at which moment, with which number drawn
@@ -85,9 +126,36 @@ pub struct Entry {
     pub call: Call,
 }
 
+impl Entry {
+    /// An equal entry of its own.
+    pub fn copy(&self, alloc: Global) -> Result<Entry, NoMemory>
+        ensures { IfOk result (λ e. e ≡ self.now) }
+    {
+        Ok(Entry {
+            who: self.who,
+            session: self.session,
+            at: self.at,
+            fresh: self.fresh,
+            call: self.call.copy(alloc)?,
+        })
+    }
+}
+
 /// An entry as the history keeps it, with a mark that says whether it was refused.
 #[derive(Debug, Drop)]
 pub struct Noted {
     pub entry: Entry,
     pub refused: bool,
+}
+
+impl Noted {
+    /// An equal entry of its own, with the same mark.
+    pub fn copy(&self, alloc: Global) -> Result<Noted, NoMemory>
+        ensures { IfOk result (λ n. n ≡ self.now) }
+    {
+        Ok(Noted {
+            entry: self.entry.copy(alloc)?,
+            refused: self.refused,
+        })
+    }
 }

@@ -28,5 +28,22 @@ fn pieces_and_views(rt: HostRuntime) -> Result<(), Fail> {
         quota: Quota::of(1),
     };
     call.keeps_limits();
+    let noted = Noted {
+        entry: Entry {
+            who: 1,
+            session: 2,
+            at: 3,
+            fresh: 0,
+            call: Call::SmbWrite { index: 4, update },
+        },
+        refused: true,
+    };
+    let again = noted.copy(rt.alloc())?;
+    assert_eq!(rt; again.entry.session, 2);
+    assert!(rt; again.refused);
+    let Call::CreateShare { quota, .. } = call.copy(rt.alloc())? else {
+        panic!(rt; "another call");
+    };
+    assert!(rt; quota.gib() == 1);
     Ok(())
 }

@@ -94,6 +94,16 @@ impl Update {
     {
         self.piece.bytes()
     }
+
+    /// An equal update of its own.
+    pub fn copy(&self, alloc: Global) -> Result<Update, NoMemory>
+        ensures { IfOk result (λ u. u ≡ self.now) }
+    {
+        Ok(Update {
+            at: self.at,
+            piece: self.piece.copy(alloc)?,
+        })
+    }
 }
 
 /// Bytes of a file as they stood when they were read.

@@ -18,7 +18,7 @@ use Rattle.sx_turn.proofs.Places.{once_here, once_more, once_one, places_none, t
 use Rattle.sx_turn.proofs.Reseat.{others_idle, reseat, unmoved, value_stays, whole_stays}
 use Rattle.sx_turn.proofs.Views.{apart_set, merged_fits, each_set, times_merged, idle_queue, count_numbered, count_merged, uncounted}
 
-module _ {B E : Type 0} (stands : B → List E) (who : E → ℕ) where
+module _ {B E : Type 0} (stands : B → List E) (lasts : B → ℕ) (fixed : ℕ) (who : E → ℕ) where
   abbrev V : Type 0
   V = View E
 
@@ -26,11 +26,11 @@ module _ {B E : Type 0} (stands : B → List E) (who : E → ℕ) where
   S = Option B
 
   abbrev H : ℕ → ℕ → ℕ → List E → List (maybe.Option S) → List V → Type 0
-  H = Holds stands who
+  H = Holds stands lasts fixed who
 
   -- the rule holds with a new view that has no number and knows no more than another
-  pub branch_holds : (a b c : ℕ) (log : List E) (homes : List (maybe.Option S)) (vs : List V) (id : ℕ) (v : V) → get_elem? vs id ≡ some v → H a b c log homes vs → H a b c log homes (vs ++ newcomer v.seen v.known ∷ [])
-  branch_holds a b c log homes vs id v at h = let f = h.each id v at in let w : V = newcomer v.seen v.known in record {
+  pub branch_holds : (a b c : ℕ) (log : List E) (homes : List (maybe.Option S)) (vs : List V) (id : ℕ) (v : V) → get_elem? vs id ≡ some v → H a b c log homes vs → H a b c log homes (vs ++ newcomer v.lasting v.seen v.known ∷ [])
+  branch_holds a b c log homes vs id v at h = let f = h.each id v at in let w : V = newcomer v.lasting v.seen v.known in record {
     each = (λ j u e. ⊎_elim (h.each j u) (λ (is : w ≡ u). subst (Fits who a b c log) is record {
       history = record {
         seen = f.history.seen;
@@ -51,28 +51,29 @@ module _ {B E : Type 0} (stands : B → List E) (who : E → ℕ) where
     bound = h.bound;
     whole = (let o = h.whole in (o.0, o.1, o.2, at_longer vs (w ∷ []) o.0 o.1 o.3, o.4, o.5));
     entries = h.entries;
+    lasting = (λ j u n e q. ⊎_elim (λ (p : get_elem? vs j ≡ some u). h.lasting j u n p q) (λ (is : w ≡ u). h.lasting id v n at (ap (λ (z : V). z.lasting) is ∙ q)) (at_snoc vs w u j e));
     value = ⊎_elim
-        (λ (d : AtHome stands who log homes vs). inl (d.0, d.1, d.2, λ j u e. ⊎_elim (d.3 j u) (λ (is : w ≡ u). ap (λ (z : V). z.turn) (sym is)) (at_snoc vs w u j e)))
-        (λ (d : IsOut stands who log homes vs). inr (d.0, d.1, at_longer vs (w ∷ []) d.0 d.1 d.2, d.3, d.4))
+        (λ (d : AtHome stands lasts fixed who log homes vs). inl (d.0, d.1, d.2, λ j u e. ⊎_elim (d.3 j u) (λ (is : w ≡ u). ap (λ (z : V). z.turn) (sym is)) (at_snoc vs w u j e), d.4))
+        (λ (d : IsOut stands lasts fixed who log homes vs). inr (d.0, d.1, at_longer vs (w ∷ []) d.0 d.1 d.2, d.3, d.4))
         h.value;
   }
 
   -- a new view beside another keeps the rule
-  pub branch_keeps : (id : ℕ) (v : V) → Splits (Kept stands who) id v v (newcomer v.seen v.known)
+  pub branch_keeps : (id : ℕ) (v : V) → Splits (Kept stands lasts fixed who) id v v (newcomer v.lasting v.seen v.known)
   branch_keeps id v s k at = (
     k.0,
     k.1,
     k.2,
     k.3,
     k.4,
-    subst (λ (vs : List V). H k.0 k.1 k.2 k.3 s.homes (vs ++ newcomer v.seen v.known ∷ [])) (sym (set_again s.views id v at)) (branch_holds k.0 k.1 k.2 k.3 s.homes s.views id v at k.5),
+    subst (λ (vs : List V). H k.0 k.1 k.2 k.3 s.homes (vs ++ newcomer v.lasting v.seen v.known ∷ [])) (sym (set_again s.views id v at)) (branch_holds k.0 k.1 k.2 k.3 s.homes s.views id v at k.5),
   )
 
   -- the rule holds after two idle views are made one
   pub merge_holds : (a b c n : ℕ) (log : List E) (homes : List (maybe.Option S)) (vs : List V) (id other : ℕ) (v w : V) → get_elem? vs id ≡ some v → ¬ (other ≡ id) → get_elem? (set vs id (merged v w)) other ≡ some w
-      → v.number ≡ Some n → v.ticket ≡ None → w.ticket ≡ None → H a b c log homes vs → H a b c log homes (set (set vs id (merged v w)) other (newcomer [] 0))
+      → v.number ≡ Some n → v.ticket ≡ None → w.ticket ≡ None → H a b c log homes vs → H a b c log homes (set (set vs id (merged v w)) other (newcomer None [] 0))
   merge_holds a b c n log homes vs id other v w at ne there num free free' h =
-      let t : V = merged v w in let z : V = newcomer [] 0 in let vs1 : List V = set vs id t in let vs2 : List V = set vs1 other z in
+      let t : V = merged v w in let z : V = newcomer None [] 0 in let vs1 : List V = set vs id t in let vs2 : List V = set vs1 other z in
       let at' : get_elem? vs other ≡ some w = sym (set_else vs id other t ne) ∙ there in
       let f = h.each id v at in let g = h.each other w at' in
       let none_z : Fits who a b c log z = record { history = record { seen = (log, refl); olds = tt; exact = tt }; queue = idle_queue _ _ log; count = uncounted (omega arith) } in
@@ -93,9 +94,11 @@ module _ {B E : Type 0} (stands : B → List E) (who : E → ℕ) where
             (id, t, n, here2, num, longer_whole v.seen w.seen log f.history.seen g.history.seen (inr (ap (λ (u : V). u.seen) (sym same) ∙ o.5))))
             (λ no. (o.0, o.1, o.2, set_else vs1 other o.0 z no ∙ (set_else vs id o.0 t ni ∙ o.3), o.4, o.5))));
         entries = h.entries;
+        lasting = (let P : ℕ → V → Type 0 = λ j u. (m : ℕ) → u.lasting ≡ Some m → m ≡ fixed in
+            λ j u m e q. each_set P vs1 other z (λ m q. absurd (cc q)) (λ j u _. each_set P vs id t (λ m q. h.lasting id v m at q) (λ j u ne e m q. h.lasting j u m e q) j u) j u e m q);
         value = ⊎_elim
-            (λ (d : AtHome stands who log homes vs). inl (d.0, d.1, d.2, each_set (λ j u. u.turn ≡ None) vs1 other z refl (λ j u _. each_set (λ j u. u.turn ≡ None) vs id t (d.3 id v at) (λ j u _. d.3 j u) j u)))
-            (λ (d : IsOut stands who log homes vs). let it = d in let its = ((h.each it.0 it.1 it.2).queue.turn log it.3).0 in
+            (λ (d : AtHome stands lasts fixed who log homes vs). inl (d.0, d.1, d.2, each_set (λ j u. u.turn ≡ None) vs1 other z refl (λ j u _. each_set (λ j u. u.turn ≡ None) vs id t (d.3 id v at) (λ j u _. d.3 j u) j u), d.4))
+            (λ (d : IsOut stands lasts fixed who log homes vs). let it = d in let its = ((h.each it.0 it.1 it.2).queue.turn log it.3).0 in
             let ni : it.0 ≢ id = λ is. let same : it.1 ≡ v = some-injective it.1 v (sym it.2 ∙ (ap (get_elem? vs) is ∙ at)) in cc (ap (λ (u : V). u.ticket) same, its, free) in
             let no : it.0 ≢ other = λ is. let same : it.1 ≡ w = some-injective it.1 w (sym it.2 ∙ (ap (get_elem? vs) is ∙ at')) in cc (ap (λ (u : V). u.ticket) same, its, free') in
             inr (it.0, it.1, set_else vs1 other it.0 z no ∙ (set_else vs id it.0 t ni ∙ it.2), it.3, it.4))
@@ -103,23 +106,23 @@ module _ {B E : Type 0} (stands : B → List E) (who : E → ℕ) where
       }
 
   -- two views made one keep the rule
-  pub merge_keeps : (id : ℕ) (v : V) (other : ℕ) (w : V) (n : ℕ) → v.number ≡ Some n → v.ticket ≡ None → w.ticket ≡ None → Joins (Kept stands who) id v other w (merged v w) (newcomer [] 0)
+  pub merge_keeps : (id : ℕ) (v : V) (other : ℕ) (w : V) (n : ℕ) → v.number ≡ Some n → v.ticket ≡ None → w.ticket ≡ None → Joins (Kept stands lasts fixed who) id v other w (merged v w) (newcomer None [] 0)
   merge_keeps id v other w n num free free' s k at ne there = (k.0, k.1, k.2, k.3, k.4, merge_holds k.0 k.1 k.2 n k.3 s.homes s.views id other v w at ne there num free free' k.5)
 
   -- recall keeps the rule, and tells what it says of the own view
-  pub recall_keeps : (slots id : ℕ) (me : Me S V) → Allows (Kept stands who) slots id me 0 (λ n. n) (RecallTells who (step slots 0 0 0 none) me)
+  pub recall_keeps : (slots id : ℕ) (me : Me S V) → Allows (Kept stands lasts fixed who) slots id me 0 (λ n. n) (RecallTells who (step slots 0 0 0 none) me)
   recall_keeps slots id me s k _ at _ = let h = k.5 in let f = h.each id me.0 at in let most = h.bound in let all = h.shared in let part = total_at owned_count s.views id me.0 at in (
     me.0,
     keeps,
     tt,
-    unmoved stands who s 0 id me.1 me.0 k at,
+    unmoved stands lasts fixed who s 0 id me.1 me.0 k at,
     (refl, (each_map _ _ (λ o p le. prefix_shorter o me.0.seen k.3 p f.history.seen le) me.0.olds f.history.olds, each_map _ _ (λ p q. q.1) (owned_pairs me.0) f.history.exact, omega arith, (λ n. let all = h.numbers n in let most = once_one n k.2 in let part = total_at (times_owned n) s.views id me.0 at in omega arith))),
   )
 
   -- the rule holds after the numbers are counted in a turn
   pub count_holds : (a b c : ℕ) (log : List E) (homes : List (maybe.Option S)) (vs : List V) (id : ℕ) (v : V) → get_elem? vs id ≡ some v → v.turn ≡ Some log → H a b c log homes vs → H a b c log homes (set vs id (with_count c v))
   count_holds a b c log homes vs id v at turn h = let f = h.each id v at in let w : V = with_count c v in
-      reseat stands who a b c a b c log log homes homes vs id v w at h record {
+      reseat stands lasts fixed who a b c a b c log log homes homes vs id v w at h record {
         fits = record { history = f.history; queue = f.queue; count = record { known = le_refl c; counted = (λ l. (refl, turn)) } };
         others = (λ j u ne e g. g);
         fresh = (λ t j u e ne eu tu. ne (h.apart j id u v t eu at tu e));
@@ -128,9 +131,10 @@ module _ {B E : Type 0} (stands : B → List E) (who : E → ℕ) where
         shared = refl;
         small = h.small;
         bound = h.bound;
-        whole = (whole_stays stands who log vs id v w at refl refl h.whole);
+        whole = (whole_stays stands lasts fixed who log vs id v w at refl refl h.whole);
         entries = h.entries;
-        value = (value_stays stands who log homes vs id v w at refl refl h.value);
+        lasting = (λ n e. h.lasting id v n at e);
+        value = (value_stays stands lasts fixed who log homes vs id v w at refl refl h.value);
       }
 
   -- a view that owns as many pairs as there are numbers owns each number, and has seen all
@@ -148,7 +152,7 @@ module _ {B E : Type 0} (stands : B → List E) (who : E → ℕ) where
       )
 
   -- count keeps the rule
-  pub count_keeps : (slots id : ℕ) (me : Me S V) (log : List E) → me.0.turn ≡ Some log → Allows (Kept stands who) slots id me 2 (λ n. n) (CountTells who (step slots 2 0 0 none) me)
+  pub count_keeps : (slots id : ℕ) (me : Me S V) (log : List E) → me.0.turn ≡ Some log → Allows (Kept stands lasts fixed who) slots id me 2 (λ n. n) (CountTells who (step slots 2 0 0 none) me)
   count_keeps slots id me log turn s k _ at _ =
       let v : V = me.0 in let n : ℕ = get_or s.words 2 0 in let now : n ≡ k.2 = ap (λ (ws : List ℕ). get_or ws 2 0) k.4 in let h = k.5 in let f = h.each id v at in
       let is = (f.queue.turn log turn).1 in let turn' : v.turn ≡ Some k.3 = turn ∙ ap (λ (l : List E). Some l) is in
@@ -177,6 +181,7 @@ module _ {B E : Type 0} (stands : B → List E) (who : E → ℕ) where
             each_map _ _ (λ p q. q.1) (owned_pairs v) f.history.exact,
             subst (λ (z : ℕ). (n : ℕ) → times_owned n v ≡ once_below n z) (sym now) r.2,
           ),
+          λ q. let every = h.numbers q in let once = once_one q k.2 in let share = total_at (times_owned q) s.views id v at in omega arith,
         ),
       )
 
@@ -184,11 +189,11 @@ module _ {B E : Type 0} (stands : B → List E) (who : E → ℕ) where
   pub enrol_holds : (a b c : ℕ) (log : List E) (homes : List (maybe.Option S)) (vs : List V) (id : ℕ) (v : V) → get_elem? vs id ≡ some v → v.turn ≡ Some log → v.number ≡ None → c < 64 → H a b c log homes vs
       → H a b (c + 1) log homes (set vs id (with_number c v))
   enrol_holds a b c log homes vs id v at turn num room h = let f = h.each id v at in let w : V = with_number c v in let served : v.ticket ≡ Some b = (f.queue.turn log turn).0 in
-      let idle = others_idle stands who a b c log homes vs id v at served h in
+      let idle = others_idle stands lasts fixed who a b c log homes vs id v at served h in
       let Q : ℕ × List ℕ → Type 0 = λ p. (p.1 ≡ places who p.0 log) × (p.1 ≡ places who p.0 v.seen) in
       let was : owned_pairs v ≡ v.ended = ap (λ (o : Option ℕ). pairs_with o v.mine v.ended) num in
       let below : Each (λ e. who e < c) (v.seen ++ f.history.seen.0) = subst (Each (λ e. who e < c)) (sym f.history.seen.1) h.entries in
-      reseat stands who a b c a b (c + 1) log log homes homes vs id v w at h record {
+      reseat stands lasts fixed who a b c a b (c + 1) log log homes homes vs id v w at h record {
         fits = record {
           history = record {
             seen = f.history.seen;
@@ -219,12 +224,13 @@ module _ {B E : Type 0} (stands : B → List E) (who : E → ℕ) where
             (λ is. let same : o.1 ≡ v = some-injective o.1 v (sym o.3 ∙ (ap (get_elem? vs) is ∙ at)) in absurd (cc (ap (λ (z : V). z.number) same, o.4, num)))
             (λ ne. (o.0, o.1, o.2, set_else vs id o.0 w ne ∙ o.3, o.4, o.5)));
         entries = (each_map _ _ (λ e l. omega arith) log h.entries);
-        value = (value_stays stands who log homes vs id v w at refl refl h.value);
+        lasting = (λ n e. h.lasting id v n at e);
+        value = (value_stays stands lasts fixed who log homes vs id v w at refl refl h.value);
       }
 
   -- enrol keeps the rule
   pub enrol_keeps : (slots id : ℕ) (me : Me S V) (log : List E) → me.0.turn ≡ Some log → me.0.number ≡ None → me.0.counted ≡ true → me.0.known < 64
-      → Allows (Kept stands who) slots id me 2 (λ n. (n + 1) % 2 ^ 64) (EnrolTells (step slots 2 1 0 none) me)
+      → Allows (Kept stands lasts fixed who) slots id me 2 (λ n. (n + 1) % 2 ^ 64) (EnrolTells (step slots 2 1 0 none) me)
   enrol_keeps slots id me log turn num look room s k _ at _ =
       let v : V = me.0 in let n : ℕ = get_or s.words 2 0 in let now : n ≡ k.2 = ap (λ (ws : List ℕ). get_or ws 2 0) k.4 in let h = k.5 in let f = h.each id v at in
       let is = (f.queue.turn log turn).1 in let turn' : v.turn ≡ Some k.3 = turn ∙ ap (λ (l : List E). Some l) is in

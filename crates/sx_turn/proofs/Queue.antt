@@ -20,7 +20,7 @@ use Rattle.sx_turn.proofs.Places.{grown_more, grown_same, once_in, once_one}
 use Rattle.sx_turn.proofs.Reseat.{is_out, others_idle, reseat, unmoved, value_stays, whole_stays}
 use Rattle.sx_turn.proofs.Views.{each_set, idle_queue, others_stay, others_grown, pairs_own, ticket_is, uncounted}
 
-module _ {B E : Type 0} (stands : B → List E) (who : E → ℕ) where
+module _ {B E : Type 0} (stands : B → List E) (lasts : B → ℕ) (fixed : ℕ) (who : E → ℕ) where
   abbrev V : Type 0
   V = View E
 
@@ -28,13 +28,13 @@ module _ {B E : Type 0} (stands : B → List E) (who : E → ℕ) where
   S = Option B
 
   abbrev H : ℕ → ℕ → ℕ → List E → List (maybe.Option S) → List V → Type 0
-  H = Holds stands who
+  H = Holds stands lasts fixed who
 
   -- the rule holds after a ticket is drawn
   pub draw_holds : (a b c : ℕ) (log : List E) (homes : List (maybe.Option S)) (vs : List V) (id : ℕ) (v : V) → get_elem? vs id ≡ some v → v.ticket ≡ None → a + 1 < 2 ^ 64 → H a b c log homes vs
       → H (a + 1) b c log homes (set vs id (with_ticket a v))
   draw_holds a b c log homes vs id v at free small h = let f = h.each id v at in let wait = h.waiting in let none_yet : ticket_count v ≡ 0 = ap one_if free in let w : V = with_ticket a v in
-      reseat stands who a b c (a + 1) b c log log homes homes vs id v w at h record {
+      reseat stands lasts fixed who a b c (a + 1) b c log log homes homes vs id v w at h record {
         fits = record {
           history = f.history;
           queue = record {
@@ -50,16 +50,17 @@ module _ {B E : Type 0} (stands : B → List E) (who : E → ℕ) where
         shared = refl;
         small = small;
         bound = h.bound;
-        whole = (whole_stays stands who log vs id v w at refl refl h.whole);
+        whole = (whole_stays stands lasts fixed who log vs id v w at refl refl h.whole);
         entries = h.entries;
-        value = (value_stays stands who log homes vs id v w at refl refl h.value);
+        lasting = (λ n e. h.lasting id v n at e);
+        value = (value_stays stands lasts fixed who log homes vs id v w at refl refl h.value);
       }
 
   -- draw keeps the rule, whether the ticket was drawn or the word had changed
-  pub draw_keeps : (slots id : ℕ) (me : Me S V) (old new : ℕ) → me.0.ticket ≡ None → new ≡ old + 1 → new < 2 ^ 64 → Allows (Kept stands who) slots id me 0 (λ n. either (eqb n old) new n) (DrawTells (step slots 0 old new none) me)
+  pub draw_keeps : (slots id : ℕ) (me : Me S V) (old new : ℕ) → me.0.ticket ≡ None → new ≡ old + 1 → new < 2 ^ 64 → Allows (Kept stands lasts fixed who) slots id me 0 (λ n. either (eqb n old) new n) (DrawTells (step slots 0 old new none) me)
   draw_keeps slots id me old new free up small s k _ at _ =
       let n : ℕ = get_or s.words 0 0 in let now : n ≡ k.0 = ap (λ (ws : List ℕ). get_or ws 0 0) k.4 in
-      exchanged n old new (λ x. (w : V) × (a : Act S) × Valid s.homes me.1 a × Kept stands who (stepped s 0 x id me.1 w a) × DrawTells (step slots 0 old new none) me n (w, carried_after me.1 a))
+      exchanged n old new (λ x. (w : V) × (a : Act S) × Valid s.homes me.1 a × Kept stands lasts fixed who (stepped s 0 x id me.1 w a) × DrawTells (step slots 0 old new none) me n (w, carried_after me.1 a))
       (λ hit. let next : k.0 + 1 ≡ new = omega arith in (
         with_ticket n me.0,
         keeps,
@@ -74,13 +75,13 @@ module _ {B E : Type 0} (stands : B → List E) (who : E → ℕ) where
         ),
         ((λ _. refl), λ miss. absurd (miss hit)),
       ))
-      (λ miss. (me.0, keeps, tt, unmoved stands who s 0 id me.1 me.0 k at, ((λ hit. absurd (miss hit)), λ _. refl)))
+      (λ miss. (me.0, keeps, tt, unmoved stands lasts fixed who s 0 id me.1 me.0 k at, ((λ hit. absurd (miss hit)), λ _. refl)))
 
   -- the rule holds after the value has come to the seat whose ticket is served
   pub look_holds : (a b c : ℕ) (log : List E) (homes : List (maybe.Option S)) (vs : List V) (id : ℕ) (v : V) → get_elem? vs id ≡ some v → v.ticket ≡ Some b → H a b c log homes vs
-      → AtHome stands who log homes vs → H a b c log (none ∷ []) (set vs id (in_turn log v))
+      → AtHome stands lasts fixed who log homes vs → H a b c log (none ∷ []) (set vs id (in_turn log v))
   look_holds a b c log homes vs id v at served h home = let f = h.each id v at in let w : V = in_turn log v in
-      reseat stands who a b c a b c log log homes (none ∷ []) vs id v w at h record {
+      reseat stands lasts fixed who a b c a b c log log homes (none ∷ []) vs id v w at h record {
         fits = record {
           history = f.history;
           queue = record {
@@ -99,18 +100,19 @@ module _ {B E : Type 0} (stands : B → List E) (who : E → ℕ) where
         shared = refl;
         small = h.small;
         bound = h.bound;
-        whole = (whole_stays stands who log vs id v w at refl refl h.whole);
+        whole = (whole_stays stands lasts fixed who log vs id v w at refl refl h.whole);
         entries = h.entries;
+        lasting = (λ n e. h.lasting id v n at e);
         value = (inr (id, w, set_here vs id w (inside vs id v at), refl, refl));
       }
 
   -- look keeps the rule, whether the turn begins or not
-  pub look_keeps : (slots id : ℕ) (me : Me S V) → me.0.turn ≡ None → Allows (Kept stands who) slots id me 1 (λ n. n) (LookTells stands who (step slots 1 0 0 none) me)
+  pub look_keeps : (slots id : ℕ) (me : Me S V) → me.0.turn ≡ None → Allows (Kept stands lasts fixed who) slots id me 1 (λ n. n) (LookTells stands lasts who (step slots 1 0 0 none) me)
   look_keeps slots id me idle s k _ at _ =
       let n : ℕ = get_or s.words 1 0 in let now : n ≡ k.1 = ap (λ (ws : List ℕ). get_or ws 1 0) k.4 in let h = k.5 in
       ⊎_elim
       (λ (hit : me.0.ticket ≡ Some n). let served : me.0.ticket ≡ Some k.1 = hit ∙ ap (λ (z : ℕ). Some z) now in ⊎_elim
-      (λ (home : AtHome stands who k.3 s.homes s.views). (
+      (λ (home : AtHome stands lasts fixed who k.3 s.homes s.views). (
         in_turn (stands home.0) me.0,
         takes 0 (Some home.0),
         ap (λ (hs : List (maybe.Option S)). get_elem? hs 0) home.1,
@@ -122,23 +124,23 @@ module _ {B E : Type 0} (stands : B → List E) (who : E → ℕ) where
           set-get_or s.words 1 0 ∙ k.4,
           subst (λ (x : List (maybe.Option S) × List E). H k.0 k.1 k.2 k.3 x.0 (set s.views id (in_turn x.1 me.0))) (λ j. (set (sym home.1 j) 0 none, sym home.2 j)) (look_holds k.0 k.1 k.2 k.3 s.homes s.views id me.0 at served h home),
         ),
-        ((λ _. (home.0, refl, (subst (λ (l : List E). IsPrefix me.0.seen l) (sym home.2) (h.each id me.0 at).history.seen, subst (λ (l : List E). Each (λ p. p.1 ≡ places who p.0 l) (owned_pairs me.0)) (sym home.2) (each_map _ _ (λ p q. q.0) (owned_pairs me.0) (h.each id me.0 at).history.exact)))), λ miss. absurd (miss hit)),
+        ((λ _. (home.0, refl, (subst (λ (l : List E). IsPrefix me.0.seen l) (sym home.2) (h.each id me.0 at).history.seen, subst (λ (l : List E). Each (λ p. p.1 ≡ places who p.0 l) (owned_pairs me.0)) (sym home.2) (each_map _ _ (λ p q. q.0) (owned_pairs me.0) (h.each id me.0 at).history.exact), each_map _ _ (λ p q. q.1) (owned_pairs me.0) (h.each id me.0 at).history.exact), λ l e. home.4 ∙ sym (h.lasting id me.0 l at e))), λ miss. absurd (miss hit)),
       ))
-      (λ (out : IsOut stands who k.3 s.homes s.views).
+      (λ (out : IsOut stands lasts fixed who k.3 s.homes s.views).
       let it = out in let its = (h.each it.0 it.1 it.2).queue.turn k.3 it.3 in
       let here : it.0 ≡ id = h.apart it.0 id it.1 me.0 k.1 it.2 at its.0 served in
       let same : it.1 ≡ me.0 = some-injective it.1 me.0 (sym it.2 ∙ (ap (get_elem? s.views) here ∙ at)) in
       absurd (cc (ap (λ (z : V). z.turn) same, it.3, idle)))
       h.value)
-      (λ (miss : me.0.ticket ≢ Some n). (me.0, keeps, tt, unmoved stands who s 1 id me.1 me.0 k at, ((λ hit. absurd (miss hit)), λ _. refl)))
+      (λ (miss : me.0.ticket ≢ Some n). (me.0, keeps, tt, unmoved stands lasts fixed who s 1 id me.1 me.0 k at, ((λ hit. absurd (miss hit)), λ _. refl)))
       (ticket_is me.0.ticket n)
 
   -- the rule holds after a turn that ends with the list as it was
-  pub next_same_holds : (a b c : ℕ) (log : List E) (homes : List (maybe.Option S)) (vs : List V) (id : ℕ) (v : V) (y : B) → get_elem? vs id ≡ some v → v.turn ≡ Some log → stands y ≡ log → H a b c log homes vs
+  pub next_same_holds : (a b c : ℕ) (log : List E) (homes : List (maybe.Option S)) (vs : List V) (id : ℕ) (v : V) (y : B) → get_elem? vs id ≡ some v → v.turn ≡ Some log → stands y ≡ log → lasts y ≡ fixed → H a b c log homes vs
       → H a (b + 1) c log (some (Some y) ∷ []) (set vs id (after_turn log v.mine v))
-  next_same_holds a b c log homes vs id v y at turn is h = let f = h.each id v at in let served : v.ticket ≡ Some b = (f.queue.turn log turn).0 in let w : V = after_turn log v.mine v in
-      let idle = others_idle stands who a b c log homes vs id v at served h in let one : ticket_count v ≡ 1 = ap one_if served in
-      reseat stands who a b c a (b + 1) c log log homes (some (Some y) ∷ []) vs id v w at h record {
+  next_same_holds a b c log homes vs id v y at turn is held h = let f = h.each id v at in let served : v.ticket ≡ Some b = (f.queue.turn log turn).0 in let w : V = after_turn log v.mine v in
+      let idle = others_idle stands lasts fixed who a b c log homes vs id v at served h in let one : ticket_count v ≡ 1 = ap one_if served in
+      reseat stands lasts fixed who a b c a (b + 1) c log log homes (some (Some y) ∷ []) vs id v w at h record {
         fits = record {
           history = record {
             seen = prefix_self log;
@@ -159,20 +161,21 @@ module _ {B E : Type 0} (stands : B → List E) (who : E → ℕ) where
             (λ here. let same : o.1 ≡ v = some-injective o.1 v (sym o.3 ∙ (ap (get_elem? vs) here ∙ at)) in (id, w, o.2, set_here vs id w (inside vs id v at), ap (λ (z : V). z.number) (sym same) ∙ o.4, refl))
             (λ ne. (o.0, o.1, o.2, set_else vs id o.0 w ne ∙ o.3, o.4, o.5)));
         entries = h.entries;
-        value = (inl (y, refl, is, each_set (λ j u. u.turn ≡ None) vs id w refl (λ j u ne e. (idle j u ne e).0)));
+        lasting = (λ n e. h.lasting id v n at e);
+        value = (inl (y, refl, is, each_set (λ j u. u.turn ≡ None) vs id w refl (λ j u ne e. (idle j u ne e).0), held));
       }
 
   -- the rule holds after a turn that ends with one entry more
-  pub next_more_holds : (a b c : ℕ) (log : List E) (homes : List (maybe.Option S)) (vs : List V) (id : ℕ) (v : V) (y : B) (e : E) → get_elem? vs id ≡ some v → v.turn ≡ Some log → stands y ≡ log ++ e ∷ [] → v.number ≡ Some (who e)
+  pub next_more_holds : (a b c : ℕ) (log : List E) (homes : List (maybe.Option S)) (vs : List V) (id : ℕ) (v : V) (y : B) (e : E) → get_elem? vs id ≡ some v → v.turn ≡ Some log → stands y ≡ log ++ e ∷ [] → v.number ≡ Some (who e) → lasts y ≡ fixed
       → H a b c log homes vs → H a (b + 1) c (log ++ e ∷ []) (some (Some y) ∷ []) (set vs id (after_turn (log ++ e ∷ []) (v.mine ++ (length log + 1) ∷ []) v))
-  next_more_holds a b c log homes vs id v y e at turn is num h =
+  next_more_holds a b c log homes vs id v y e at turn is num held h =
       let f = h.each id v at in let served : v.ticket ≡ Some b = (f.queue.turn log turn).0 in let log' : List E = log ++ e ∷ [] in let w : V = after_turn log' (v.mine ++ (length log + 1) ∷ []) v in
-      let idle = others_idle stands who a b c log homes vs id v at served h in let one : ticket_count v ≡ 1 = ap one_if served in
+      let idle = others_idle stands lasts fixed who a b c log homes vs id v at served h in let one : ticket_count v ≡ 1 = ap one_if served in
       let mine_is : times_owned (who e) v ≡ 1 + times (who e) v.ended = ap (λ (o : Option ℕ). times (who e) (pairs_with o v.mine v.ended)) num ∙ ap (λ (t : Bool). (if t then 1 else 0) + times (who e) v.ended) (eq-eqb (who e) (who e) refl) in
       let all = h.numbers (who e) in let most = once_one (who e) c in let share = total_at (times_owned (who e)) vs id v at in
       let below : who e < c = once_in (who e) c (omega arith) in
       let mine_once : times_owned (who e) w ≡ times_owned (who e) v = ap (λ (o : Option ℕ). times (who e) (pairs_with o w.mine v.ended)) num ∙ ap (λ (o : Option ℕ). times (who e) (pairs_with o v.mine v.ended)) (sym num) in
-      reseat stands who a b c a (b + 1) c log log' homes (some (Some y) ∷ []) vs id v w at h record {
+      reseat stands lasts fixed who a b c a (b + 1) c log log' homes (some (Some y) ∷ []) vs id v w at h record {
         fits = record {
           history = record {
             seen = prefix_self log';
@@ -191,19 +194,20 @@ module _ {B E : Type 0} (stands : B → List E) (who : E → ℕ) where
         bound = h.bound;
         whole = (id, w, who e, set_here vs id w (inside vs id v at), num, refl);
         entries = (each_snoc _ log e h.entries below);
-        value = (inl (y, refl, is, each_set (λ j u. u.turn ≡ None) vs id w refl (λ j u ne q. (idle j u ne q).0)));
+        lasting = (λ n e. h.lasting id v n at e);
+        value = (inl (y, refl, is, each_set (λ j u. u.turn ≡ None) vs id w refl (λ j u ne q. (idle j u ne q).0), held));
       }
 
   -- next keeps the rule
-  pub next_keeps : (slots id : ℕ) (me : Me S V) (y : B) (log : List E) → me.1 ≡ (0, Some y) ∷ [] → me.0.turn ≡ Some log → me.0.closed ≡ false → MayEndWith stands who log me.0 y
-      → Allows (Kept stands who) slots id me 1 (λ n. (n + 1) % 2 ^ 64) (NextTells stands (step slots 1 1 0 none) me)
+  pub next_keeps : (slots id : ℕ) (me : Me S V) (y : B) (log : List E) → me.1 ≡ (0, Some y) ∷ [] → me.0.turn ≡ Some log → me.0.closed ≡ false → MayEndWith stands lasts who log me.0 y
+      → Allows (Kept stands lasts fixed who) slots id me 1 (λ n. (n + 1) % 2 ^ 64) (NextTells stands (step slots 1 1 0 none) me)
   next_keeps slots id me y log carried turn still_open may s k _ at _ =
-      let v : V = me.0 in let n : ℕ = get_or s.words 1 0 in let now : n ≡ k.1 = ap (λ (ws : List ℕ). get_or ws 1 0) k.4 in let h = k.5 in
+      let v : V = me.0 in let held : lasts y ≡ fixed = k.5.lasting id v (lasts y) at may.0 in let n : ℕ = get_or s.words 1 0 in let now : n ≡ k.1 = ap (λ (ws : List ℕ). get_or ws 1 0) k.4 in let h = k.5 in
       let mine = (h.each id v at).queue.turn log turn in let turn' : v.turn ≡ Some k.3 = turn ∙ ap (λ (l : List E). Some l) mine.1 in
       let inside' = (h.each id v at).queue.ticket k.1 mine.0 in let small = h.small in
       let up : (n + 1) % 2 ^ 64 ≡ k.1 + 1 = ap (λ (z : ℕ). (z + 1) % 2 ^ 64) now ∙ mod-eq_of_lt (omega arith) in
       let words : set s.words 1 ((n + 1) % 2 ^ 64) ≡ k.0 ∷ (k.1 + 1) ∷ k.2 ∷ [] = ap (λ (ws : List ℕ). set ws 1 ((n + 1) % 2 ^ 64)) k.4 ∙ ap (λ (z : ℕ). k.0 ∷ z ∷ k.2 ∷ []) up in
-      let out = is_out stands who k.0 k.1 k.2 k.3 s.homes s.views id v at turn' still_open h in
+      let out = is_out stands lasts fixed who k.0 k.1 k.2 k.3 s.homes s.views id v at turn' still_open h in
       let home : put_back s.homes me.1 ≡ some (Some y) ∷ [] = λ j. put_back (out j) (carried j) in
       ⊎_elim
       (λ (same : stands y ≡ log). (
@@ -217,7 +221,7 @@ module _ {B E : Type 0} (stands : B → List E) (who : E → ℕ) where
           k.3,
           words,
           subst (λ (x : List (maybe.Option S) × List E). H k.0 (k.1 + 1) k.2 k.3 x.0 (set s.views id (after_turn x.1 v.mine v))) (λ j. (sym home j, sym mine.1 j))
-              (next_same_holds k.0 k.1 k.2 k.3 s.homes s.views id v y at turn' (same ∙ mine.1) h),
+              (next_same_holds k.0 k.1 k.2 k.3 s.homes s.views id v y at turn' (same ∙ mine.1) held h),
         ),
         λ y' c'. let b : y ≡ y' = cc (sym carried ∙ c') in let l : log ≡ stands y' = sym same ∙ ap stands b in
             let m : v.mine ≡ places_grown v.turn v.mine (stands y') = sym (grown_same v.turn v.mine log turn) ∙ ap (places_grown v.turn v.mine) l in
@@ -234,10 +238,10 @@ module _ {B E : Type 0} (stands : B → List E) (who : E → ℕ) where
           k.3 ++ e ∷ [],
           words,
           subst (λ (x : List (maybe.Option S) × List E). H k.0 (k.1 + 1) k.2 (k.3 ++ e ∷ []) x.0 (set s.views id (after_turn (x.1 ++ e ∷ []) (v.mine ++ (length x.1 + 1) ∷ []) v))) (λ j. (sym home j, sym mine.1 j))
-              (next_more_holds k.0 k.1 k.2 k.3 s.homes s.views id v y e at turn' (more.1 ∙ ap (λ (l : List E). l ++ e ∷ []) mine.1) more.2 h),
+              (next_more_holds k.0 k.1 k.2 k.3 s.homes s.views id v y e at turn' (more.1 ∙ ap (λ (l : List E). l ++ e ∷ []) mine.1) more.2 held h),
         ),
         λ y' c'. let b : y ≡ y' = cc (sym carried ∙ c') in let l : log ++ e ∷ [] ≡ stands y' = sym more.1 ∙ ap stands b in
             let m : v.mine ++ (length log + 1) ∷ [] ≡ places_grown v.turn v.mine (stands y') = sym (grown_more v.turn v.mine log e turn) ∙ ap (places_grown v.turn v.mine) l in
             λ j. (after_turn (l j) (m j) v, rest (carried j)),
       ))
-      may
+      may.1

@@ -15,7 +15,7 @@ use Rattle.sx_turn.specs.Rules.{Fits, AtHome, IsOut, Holds, Kept, slot_content}
 use Rattle.sx_turn.proofs.Lists.{inside, none_if, total_set}
 use Rattle.sx_turn.proofs.Views.{apart_set, each_set}
 
-module _ {B E : Type 0} (stands : B → List E) (who : E → ℕ) where
+module _ {B E : Type 0} (stands : B → List E) (lasts : B → ℕ) (fixed : ℕ) (who : E → ℕ) where
   abbrev V : Type 0
   V = View E
 
@@ -23,7 +23,7 @@ module _ {B E : Type 0} (stands : B → List E) (who : E → ℕ) where
   S = Option B
 
   abbrev H : ℕ → ℕ → ℕ → List E → List (maybe.Option S) → List V → Type 0
-  H = Holds stands who
+  H = Holds stands lasts fixed who
 
   -- What a move owes that sets the view at id from v to w, where the words are then a', b' and c', the list log' and the slot homes'
   pub record Resets (a b c a' b' c' : ℕ) (log log' : List E) (homes' : List (maybe.Option S)) (vs : List V) (id : ℕ) (v w : V) : Type 0 where
@@ -41,8 +41,10 @@ module _ {B E : Type 0} (stands : B → List E) (who : E → ℕ) where
     -- the list has been seen whole, and its entries have numbers
     pub whole : (k : ℕ) × (x : V) × (n : ℕ) × (get_elem? (set vs id w) k ≡ some x) × (x.number ≡ Some n) × (x.seen ≡ log')
     pub entries : Each (λ e. who e < c') log'
+    -- it knows the right lasting number, if any
+    pub lasting : (n : ℕ) → w.lasting ≡ Some n → n ≡ fixed
     -- where the value is
-    pub value : AtHome stands who log' homes' (set vs id w) ⊎ IsOut stands who log' homes' (set vs id w)
+    pub value : AtHome stands lasts fixed who log' homes' (set vs id w) ⊎ IsOut stands lasts fixed who log' homes' (set vs id w)
 
   -- the rule holds after one view is set
   pub reseat : (a b c a' b' c' : ℕ) (log log' : List E) (homes homes' : List (maybe.Option S)) (vs : List V) (id : ℕ) (v w : V) → get_elem? vs id ≡ some v
@@ -59,6 +61,7 @@ module _ {B E : Type 0} (stands : B → List E) (who : E → ℕ) where
     bound = r.bound;
     whole = r.whole;
     entries = r.entries;
+    lasting = (λ j u n e q. each_set (λ j u. (n : ℕ) → u.lasting ≡ Some n → n ≡ fixed) vs id w r.lasting (λ j u ne e n q. h.lasting j u n e q) j u e n q);
     value = r.value;
   }
 
@@ -73,17 +76,17 @@ module _ {B E : Type 0} (stands : B → List E) (who : E → ℕ) where
 
   -- the value is where it was, where the set view kept its turn
   pub value_stays : (log : List E) (homes : List (maybe.Option S)) (vs : List V) (id : ℕ) (v w : V) → get_elem? vs id ≡ some v → w.turn ≡ v.turn → w.closed ≡ v.closed
-      → AtHome stands who log homes vs ⊎ IsOut stands who log homes vs → AtHome stands who log homes (set vs id w) ⊎ IsOut stands who log homes (set vs id w)
+      → AtHome stands lasts fixed who log homes vs ⊎ IsOut stands lasts fixed who log homes vs → AtHome stands lasts fixed who log homes (set vs id w) ⊎ IsOut stands lasts fixed who log homes (set vs id w)
   value_stays log homes vs id v w at same is_closed = ⊎_elim
-      (λ (h : AtHome stands who log homes vs). inl (h.0, h.1, h.2, each_set (λ j u. u.turn ≡ None) vs id w (same ∙ h.3 id v at) (λ j u _ e. h.3 j u e)))
-      (λ (h : IsOut stands who log homes vs). inr (dite (ℕ_discrete h.0 id)
+      (λ (h : AtHome stands lasts fixed who log homes vs). inl (h.0, h.1, h.2, each_set (λ j u. u.turn ≡ None) vs id w (same ∙ h.3 id v at) (λ j u _ e. h.3 j u e), h.4))
+      (λ (h : IsOut stands lasts fixed who log homes vs). inr (dite (ℕ_discrete h.0 id)
       (λ is. let was : v ≡ h.1 = some-injective v h.1 (sym at ∙ (ap (get_elem? vs) (sym is) ∙ h.2)) in
       (id, w, set_here vs id w (inside vs id v at), same ∙ (ap (λ (z : V). z.turn) was ∙ h.3), h.4 ∙ ap (λ (b : Bool). let l : List (maybe.Option S) = slot_content b ∷ [] in l) (sym (is_closed ∙ ap (λ (z : V). z.closed) was))))
       (λ ne. (h.0, h.1, set_else vs id h.0 w ne ∙ h.2, h.3, h.4))))
 
   -- a load that changes nothing keeps the rule
-  pub unmoved : (s : State S V) (i id : ℕ) (cs : List (ℕ × S)) (v : V) → Kept stands who s → get_elem? s.views id ≡ some v → Kept stands who (stepped s i (get_or s.words i 0) id cs v keeps)
-  unmoved s i id cs v k at = subst (λ (x : List ℕ × List V). Kept stands who record { words = x.0; homes = s.homes; views = x.1 }) (λ j. (sym (set-get_or s.words i 0) j, sym (set_again s.views id v at) j)) k
+  pub unmoved : (s : State S V) (i id : ℕ) (cs : List (ℕ × S)) (v : V) → Kept stands lasts fixed who s → get_elem? s.views id ≡ some v → Kept stands lasts fixed who (stepped s i (get_or s.words i 0) id cs v keeps)
+  unmoved s i id cs v k at = subst (λ (x : List ℕ × List V). Kept stands lasts fixed who record { words = x.0; homes = s.homes; views = x.1 }) (λ j. (sym (set-get_or s.words i 0) j, sym (set_again s.views id v at) j)) k
 
   -- of all views only the one in its turn has the ticket that is served
   pub others_idle : (a b c : ℕ) (log : List E) (homes : List (maybe.Option S)) (vs : List V) (id : ℕ) (v : V) → get_elem? vs id ≡ some v → v.ticket ≡ Some b → H a b c log homes vs
@@ -94,8 +97,8 @@ module _ {B E : Type 0} (stands : B → List E) (who : E → ℕ) where
 
   -- the slot is out while a seat is in its turn
   pub is_out : (a b c : ℕ) (log : List E) (homes : List (maybe.Option S)) (vs : List V) (id : ℕ) (v : V) → get_elem? vs id ≡ some v → v.turn ≡ Some log → v.closed ≡ false → H a b c log homes vs → homes ≡ none ∷ []
-  is_out a b c log homes vs id v at turn still_open h = ⊎_elim (λ (home : AtHome stands who log homes vs). absurd (cc (turn, home.3 id v at)))
-      (λ (out : IsOut stands who log homes vs).
+  is_out a b c log homes vs id v at turn still_open h = ⊎_elim (λ (home : AtHome stands lasts fixed who log homes vs). absurd (cc (turn, home.3 id v at)))
+      (λ (out : IsOut stands lasts fixed who log homes vs).
       let here : out.0 ≡ id = h.apart out.0 id out.1 v b out.2 at ((h.each out.0 out.1 out.2).queue.turn log out.3).0 ((h.each id v at).queue.turn log turn).0 in
       let same : out.1 ≡ v = some-injective out.1 v (sym out.2 ∙ (ap (get_elem? vs) here ∙ at)) in
       out.4 ∙ ap (λ (b : Bool). let l : List (maybe.Option S) = slot_content b ∷ [] in l) (ap (λ (z : V). z.closed) same ∙ still_open))

@@ -6,7 +6,7 @@ use Rattle.atomic_table.specs.Table.{Me, Step}
 use Rattle.atomic_table.specs.Seated.{TableId}
 use Rattle.sx_turn.specs.declared.rule.View.{View}
 use Rattle.sx_turn.specs.Places.{Each}
-use Rattle.sx_turn.specs.Views.{owned_count, with_ticket, in_turn, with_count, with_number, after_turn, after_next, with_closed, newcomer, enrolled_view, Extends, SeesAll, IsSound}
+use Rattle.sx_turn.specs.Views.{owned_count, times_owned, with_ticket, in_turn, with_count, with_number, after_turn, after_next, with_closed, newcomer, enrolled_view, Extends, SeesAll, IsSound}
 
 -- a table of three words and one slot
 abbrev pub IsBoard : TableId → Type 0
@@ -21,36 +21,37 @@ abbrev BoardStep : Type 0 → Type 0
 BoardStep B = Step (Option B)
 
 module _ {B E : Type 0} where
-  -- a seat that is in no turn, and waits for none
+  -- a seat that is in no turn, waits for none, and knows the value's lasting number
   abbrev pub IsIdle : SeatMe B E → Type 0
-  IsIdle m = (m.0.ticket ≡ None) × (m.0.turn ≡ None) × (m.1 ≡ [])
+  IsIdle m = (m.0.ticket ≡ None) × (m.0.turn ≡ None) × (m.1 ≡ []) × ((l : ℕ) × (m.0.lasting ≡ Some l))
 
   -- draw: where the word was the one expected, it is the seat's ticket
   abbrev pub DrawTells : BoardStep B → SeatMe B E → ℕ → SeatMe B E → Type 0
   DrawTells st m n m' = (n ≡ st.first → m' ≡ (with_ticket n m.0, m.1)) × (n ≢ st.first → m' ≡ m)
 
   -- look: where the seat's ticket is served, the value comes to it and its turn begins
-  abbrev pub LookTells : (B → List E) → (E → ℕ) → BoardStep B → SeatMe B E → ℕ → SeatMe B E → Type 0
-  LookTells stands who st m n m' = (m.0.ticket ≡ Some n → (y : B) × (m' ≡ (in_turn (stands y) m.0, (0, Some y) ∷ m.1)) × Extends who m.0 (stands y))
+  abbrev pub LookTells : (B → List E) → (B → ℕ) → (E → ℕ) → BoardStep B → SeatMe B E → ℕ → SeatMe B E → Type 0
+  LookTells stands lasts who st m n m' = (m.0.ticket ≡ Some n → (y : B) × (m' ≡ (in_turn (stands y) m.0, (0, Some y) ∷ m.1)) × Extends who m.0 (stands y) × ((l : ℕ) → m.0.lasting ≡ Some l → lasts y ≡ l))
       × (m.0.ticket ≢ Some n → m' ≡ m)
 
   -- the turn has begun
-  abbrev pub TurnBegins : (B → List E) → (E → ℕ) → SeatMe B E → SeatMe B E → Type 0
-  TurnBegins stands who m m' = (y : B) × (m' ≡ (in_turn (stands y) m.0, (0, Some y) ∷ [])) × Extends who m.0 (stands y)
+  abbrev pub TurnBegins : (B → List E) → (B → ℕ) → (E → ℕ) → SeatMe B E → SeatMe B E → Type 0
+  TurnBegins stands lasts who m m' = (y : B) × (m' ≡ (in_turn (stands y) m.0, (0, Some y) ∷ [])) × Extends who m.0 (stands y)
+      × ((l : ℕ) → m.0.lasting ≡ Some l → lasts y ≡ l)
 
-  -- the value y may end a turn that began with this list: it stands for the list, or for it and one entry of the seat's number behind it
-  abbrev pub MayEndWith : (B → List E) → (E → ℕ) → List E → View E → B → Type 0
-  MayEndWith stands who log v y = (stands y ≡ log) ⊎ ((e : E) × (stands y ≡ log ++ e ∷ []) × (v.number ≡ Some (who e)))
+  -- the value y may end a turn that began with this list: its lasting number is the same, and it stands for the list, or for it and one entry of the seat's number behind it
+  abbrev pub MayEndWith : (B → List E) → (B → ℕ) → (E → ℕ) → List E → View E → B → Type 0
+  MayEndWith stands lasts who log v y = (v.lasting ≡ Some (lasts y)) × ((stands y ≡ log) ⊎ ((e : E) × (stands y ≡ log ++ e ∷ []) × (v.number ≡ Some (who e))))
 
   -- the seat is in its turn, and has a value in its hands with which the turn may end
-  abbrev pub MayEnd : (B → List E) → (E → ℕ) → SeatMe B E → Type 0
-  MayEnd stands who m = (y : B) × (h : List E) × (m.1 ≡ (0, Some y) ∷ []) × (m.0.turn ≡ Some h) × (m.0.closed ≡ false)
-      × MayEndWith stands who h m.0 y
+  abbrev pub MayEnd : (B → List E) → (B → ℕ) → (E → ℕ) → SeatMe B E → Type 0
+  MayEnd stands lasts who m = (y : B) × (h : List E) × (m.1 ≡ (0, Some y) ∷ []) × (m.0.turn ≡ Some h) × (m.0.closed ≡ false)
+      × MayEndWith stands lasts who h m.0 y
 
   -- the seat is in its turn with the slot empty, and y may go back into it
-  abbrev pub MayPutBack : (B → List E) → (E → ℕ) → SeatMe B E → B → Type 0
-  MayPutBack stands who m y = (h : List E) × (m.1 ≡ (0, None) ∷ []) × (m.0.turn ≡ Some h) × (m.0.closed ≡ false)
-      × MayEndWith stands who h m.0 y
+  abbrev pub MayPutBack : (B → List E) → (B → ℕ) → (E → ℕ) → SeatMe B E → B → Type 0
+  MayPutBack stands lasts who m y = (h : List E) × (m.1 ≡ (0, None) ∷ []) × (m.0.turn ≡ Some h) × (m.0.closed ≡ false)
+      × MayEndWith stands lasts who h m.0 y
 
   -- the value goes home, and the turn ends
   abbrev pub TurnEnds : (B → List E) → SeatMe B E → SeatMe B E → Type 0
@@ -64,17 +65,17 @@ module _ {B E : Type 0} where
   abbrev pub CallersCounted : (E → ℕ) → SeatMe B E → ℕ → SeatMe B E → Type 0
   CallersCounted who m n m' = (h : List E) → m.0.turn ≡ Some h
       → (m' ≡ (with_count n m.0, m.1)) × (m.0.known ≤ n) × (1 ≤ n) × (n ≤ 64) × (owned_count m.0 ≤ n) × Each (λ e. who e < n) h
-      × (n ≤ owned_count m.0 → SeesAll who n m.0 h)
+      × (n ≤ owned_count m.0 → SeesAll who n m.0 h) × ((k : ℕ) → times_owned k m.0 ≤ 1)
 
   -- count: the callers are counted
   abbrev pub CountTells : (E → ℕ) → BoardStep B → SeatMe B E → ℕ → SeatMe B E → Type 0
   CountTells who st m n m' = CallersCounted who m n m'
 
   -- the turn has begun, and the callers are counted in it
-  abbrev pub CountedInTurn : (B → List E) → (E → ℕ) → SeatMe B E → ℕ → SeatMe B E → Type 0
-  CountedInTurn stands who m n m' = (y : B) × (t : ℕ) × (m' ≡ (with_count n (in_turn (stands y) (with_ticket t m.0)), (0, Some y) ∷ []))
-      × IsPrefix m.0.seen (stands y) × (m.0.known ≤ n) × (1 ≤ n) × (n ≤ 64) × (owned_count m.0 ≤ n) × Each (λ e. who e < n) (stands y)
-      × (n ≤ owned_count m.0 → SeesAll who n m.0 (stands y))
+  abbrev pub CountedInTurn : (B → List E) → (B → ℕ) → (E → ℕ) → SeatMe B E → ℕ → SeatMe B E → Type 0
+  CountedInTurn stands lasts who m n m' = (y : B) × (t : ℕ) × (m' ≡ (with_count n (in_turn (stands y) (with_ticket t m.0)), (0, Some y) ∷ []))
+      × Extends who m.0 (stands y) × (m.0.known ≤ n) × (1 ≤ n) × (n ≤ 64) × (owned_count m.0 ≤ n) × Each (λ e. who e < n) (stands y)
+      × (n ≤ owned_count m.0 → SeesAll who n m.0 (stands y)) × ((k : ℕ) → times_owned k m.0 ≤ 1) × (m.0.lasting ≡ Some (lasts y))
 
   -- enrol: the seat has the number that was next
   abbrev pub EnrolTells : BoardStep B → SeatMe B E → ℕ → SeatMe B E → Type 0
@@ -83,7 +84,7 @@ module _ {B E : Type 0} where
   -- what a new view is after its first turn: it has the number n, or there was none left
   abbrev pub NumberDrawn : (E → ℕ) → View E → ℕ → SeatMe B E → Type 0
   NumberDrawn who v n m' = (h : List E) × IsPrefix v.seen h × (n ≤ 64) × (1 ≤ n) × Each (λ e. who e < n) h
-      × (n < 64 → m' ≡ (enrolled_view n h, [])) × (64 ≤ n → m' ≡ (newcomer h n, [])) × (v.known ≤ n)
+      × (n < 64 → m' ≡ (enrolled_view v.lasting n h, [])) × (64 ≤ n → m' ≡ (newcomer v.lasting h n, [])) × (v.known ≤ n)
 
   -- recall: nothing changes, and the seat learns what its view tells
   abbrev pub RecallTells : (E → ℕ) → BoardStep B → SeatMe B E → ℕ → SeatMe B E → Type 0
@@ -97,11 +98,11 @@ module _ {B E : Type 0} where
   abbrev pub IsClosed : SeatMe B E → Type 0
   IsClosed m = (m.0.closed ≡ true) × ((h : List E) × (m.0.turn ≡ Some h)) × (m.1 ≡ [])
 
-  -- the value that was taken out stands for the list that was seen, and the seat owns all numbers
-  abbrev pub TakenOut : (B → List E) → (E → ℕ) → View E → B → Type 0
-  TakenOut stands who v y = (stands y ≡ v.seen) × SeesAll who (owned_count v) v v.seen
+  -- the value that was taken out stands for the list that was seen, and the seat owns all numbers, of which it knew no others
+  abbrev pub TakenOut : (B → List E) → (B → ℕ) → (E → ℕ) → View E → B → Type 0
+  TakenOut stands lasts who v y = (stands y ≡ v.seen) × SeesAll who (owned_count v) v v.seen × (v.known ≤ owned_count v) × (v.lasting ≡ Some (lasts y))
 
-  -- more numbers were given out than the seat owns, and the seat has seen the list so far
-  abbrev pub StillOut : ℕ → SeatMe B E → ℕ → SeatMe B E → Type 0
-  StillOut owns m n m' = (owns < n) × (n ≤ 64) × (m.0.known ≤ n)
-      × ((h : List E) × (m' ≡ (record (after_turn h m.0.mine m.0) { known = n; closed = false }, [])) × IsPrefix m.0.seen h)
+  -- more numbers were given out than the seat owns, each of which it owns once, and the seat has seen the list so far
+  abbrev pub StillOut : (E → ℕ) → ℕ → SeatMe B E → ℕ → SeatMe B E → Type 0
+  StillOut who owns m n m' = (owns < n) × (n ≤ 64) × (m.0.known ≤ n) × ((k : ℕ) → times_owned k m.0 ≤ 1)
+      × ((h : List E) × (m' ≡ (record (after_turn h m.0.mine m.0) { known = n; closed = false }, [])) × Extends who m.0 h)

@@ -35,13 +35,17 @@ module _ {E : Type 0} where
   NumbersAreOwnedOnce callers views = ((n : ℕ) → n < callers → total (times_owned n) views ≡ 1)
       × ((n : ℕ) → callers ≤ n → total (times_owned n) views ≡ 0) × (1 ≤ callers) × (callers ≤ 64)
 
-  -- While nobody is in its turn the value lies in the slot, and stands for the log.
+  -- While nobody is in its turn the value lies in the slot, stands for the log, and has the lasting number.
   -- A seat in its turn knows the log, and the slot is out with it; once it has taken the value out for good, the slot is back and empty.
-  abbrev pub ValueIsInOnePlace : {B : Type 0} → (B → List E) → List E → List (maybe.Option (Option B)) → List (View E) → Type 0
-  ValueIsInOnePlace {B} stands log homes views = (((j : ℕ) (v : View E) → HasView views j v → v.turn ≡ None)
-      → (y : B) × (homes ≡ some (Some y) ∷ []) × (stands y ≡ log))
+  abbrev pub ValueIsInOnePlace : {B : Type 0} → (B → List E) → (B → ℕ) → ℕ → List E → List (maybe.Option (Option B)) → List (View E) → Type 0
+  ValueIsInOnePlace {B} stands lasts fixed log homes views = (((j : ℕ) (v : View E) → HasView views j v → v.turn ≡ None)
+      → (y : B) × (homes ≡ some (Some y) ∷ []) × (stands y ≡ log) × (lasts y ≡ fixed))
       × ((j : ℕ) (v : View E) (h : List E) → HasView views j v → v.turn ≡ Some h
       → (h ≡ log) × (v.closed ≡ false → homes ≡ none ∷ []) × (v.closed ≡ true → homes ≡ some None ∷ []))
+
+  -- A seat that knows the value's lasting number knows the right one.
+  abbrev pub LastingNumberIsKnown : ℕ → List (View E) → Type 0
+  LastingNumberIsKnown fixed views = (j : ℕ) (v : View E) (n : ℕ) → HasView views j v → v.lasting ≡ Some n → n ≡ fixed
 
   -- What any seat has seen is a beginning of the log, and so is what both seats had seen at its last join.
   -- Some seat with a number has seen all of the log.
@@ -54,8 +58,8 @@ module _ {E : Type 0} where
   abbrev pub PlacesAreExact : (E → ℕ) → ℕ → List E → List (View E) → Type 0
   PlacesAreExact who callers log views = ((j : ℕ) (v : View E) → HasView views j v → OwnsPlacesIn who log v) × Each (λ e. who e < callers) log
 
--- The whole rule: the words count the tickets, tell the one that is served and count the callers, and there is one log, of which all six parts hold.
-pub record IsOneHistory {B E : Type 0} (stands : B → List E) (who : E → ℕ) (s : State (Option B) (View E)) : Type 0 where
+-- The whole rule: the words count the tickets, tell the one that is served and count the callers, and there is one log, of which all seven parts hold.
+pub record IsOneHistory {B E : Type 0} (stands : B → List E) (lasts : B → ℕ) (fixed : ℕ) (who : E → ℕ) (s : State (Option B) (View E)) : Type 0 where
   pub tickets : ℕ
   pub serving : ℕ
   pub callers : ℕ
@@ -64,6 +68,7 @@ pub record IsOneHistory {B E : Type 0} (stands : B → List E) (who : E → ℕ)
   pub tickets_differ : TicketsDiffer tickets serving s.views
   pub one_turn : OneSeatIsInItsTurn serving callers s.views
   pub numbers_once : NumbersAreOwnedOnce callers s.views
-  pub one_value : ValueIsInOnePlace stands log s.homes s.views
+  pub one_value : ValueIsInOnePlace stands lasts fixed log s.homes s.views
+  pub one_number : LastingNumberIsKnown fixed s.views
   pub beginnings : AllSeeBeginnings log s.views
   pub exact_places : PlacesAreExact who callers log s.views

@@ -1,5 +1,6 @@
 -- The rule of the turn: what is kept, at every moment, of the table's words, its slot and all views.
 -- Word 0 counts the tickets that were drawn, word 1 is the ticket that is served, and word 2 counts the numbers that were given out. The slot holds the value.
+-- The value has a number that no turn changes, `fixed`.
 -- The law `rule_in_words` reads the rule out in plain words, which stand in PlainRule.
 use Rattle.std.specs.Prelude.{◌≡◌, ◌⊎◌, ℕ, ◌+◌, ◌^◌, ◌<◌, ◌≤◌, Bool, true, false, List, [], ◌∷◌, Option, Some, None}
 use mathlib.Core.Option.{some, none}
@@ -44,11 +45,11 @@ module _ {E : Type 0} where
   Apart views = (i j : ℕ) (v w : View E) (t : ℕ)
       → get_elem? views i ≡ some v → get_elem? views j ≡ some w → v.ticket ≡ Some t → w.ticket ≡ Some t → i ≡ j
 
-module _ {B E : Type 0} (stands : B → List E) (who : E → ℕ) where
+module _ {B E : Type 0} (stands : B → List E) (lasts : B → ℕ) (fixed : ℕ) (who : E → ℕ) where
   -- the value lies in the slot, and nobody is in its turn
   abbrev pub AtHome : List E → List (maybe.Option (Option B)) → List (View E) → Type 0
   AtHome log homes views = (y : B) × (homes ≡ some (Some y) ∷ []) × (stands y ≡ log)
-      × ((j : ℕ) (v : View E) → get_elem? views j ≡ some v → v.turn ≡ None)
+      × ((j : ℕ) (v : View E) → get_elem? views j ≡ some v → v.turn ≡ None) × (lasts y ≡ fixed)
 
   -- the value is with a seat in its turn, or was taken out by it for good
   abbrev pub IsOut : List E → List (maybe.Option (Option B)) → List (View E) → Type 0
@@ -74,6 +75,8 @@ module _ {B E : Type 0} (stands : B → List E) (who : E → ℕ) where
     pub whole : (k : ℕ) × (v : View E) × (n : ℕ) × (get_elem? views k ≡ some v) × (v.number ≡ Some n) × (v.seen ≡ log)
     -- each entry has a number that was given out
     pub entries : Each (λ e. who e < callers) log
+    -- what a view knows as the value's lasting number is that
+    pub lasting : (j : ℕ) (v : View E) (n : ℕ) → get_elem? views j ≡ some v → v.lasting ≡ Some n → n ≡ fixed
     -- where the value is
     pub value : AtHome log homes views ⊎ IsOut log homes views
 

@@ -31,17 +31,17 @@ module _ {E : Type 0} where
   abbrev pub ticket_count : View E → ℕ
   ticket_count v = one_if v.ticket
 
-  -- a new view without a number, which has seen this list and knows of so many callers
-  abbrev pub newcomer : List E → ℕ → View E
-  newcomer seen known = record { number = None; seen = seen; mine = []; ended = []; olds = []; ticket = None; known = known; turn = None; counted = false; closed = false }
+  -- a new view without a number of its own, which knows the value's lasting number, has seen this list and knows of so many callers
+  abbrev pub newcomer : Option ℕ → List E → ℕ → View E
+  newcomer lasting seen known = record { lasting = lasting; number = None; seen = seen; mine = []; ended = []; olds = []; ticket = None; known = known; turn = None; counted = false; closed = false }
 
   -- the view of the first seat: it has number 0, and all entries so far are its own
-  abbrev pub first_view : (E → ℕ) → List E → View E
-  first_view who log = record (newcomer log 1) { number = Some 0; mine = places who 0 log }
+  abbrev pub first_view : (E → ℕ) → ℕ → List E → View E
+  first_view who lasting log = record (newcomer (Some lasting) log 1) { number = Some 0; mine = places who 0 log }
 
   -- a view with its number n, after the turn in which that was drawn
-  abbrev pub enrolled_view : ℕ → List E → View E
-  enrolled_view n log = record (newcomer log (n + 1)) { number = Some n }
+  abbrev pub enrolled_view : Option ℕ → ℕ → List E → View E
+  enrolled_view lasting n log = record (newcomer lasting log (n + 1)) { number = Some n }
 
   -- a ticket is drawn
   abbrev pub with_ticket : ℕ → View E → View E
@@ -79,9 +79,9 @@ module _ {E : Type 0} where
   abbrev pub OwnsPlacesIn : (E → ℕ) → List E → View E → Type 0
   OwnsPlacesIn who log v = Each (λ p. p.1 ≡ places who p.0 log) (owned_pairs v)
 
-  -- the list begins with what the view has seen, and each number that the view owns has there the places that it kept
+  -- the list begins with what the view has seen, and each number that the view owns has the places that it kept, in the list and in what was seen
   abbrev pub Extends : (E → ℕ) → View E → List E → Type 0
-  Extends who v log = IsPrefix v.seen log × OwnsPlacesIn who log v
+  Extends who v log = IsPrefix v.seen log × OwnsPlacesIn who log v × OwnsPlacesIn who v.seen v
 
   -- the view owns all of the n numbers: then it has seen the whole list, and each entry has one of its numbers
   abbrev pub SeesAll : (E → ℕ) → ℕ → View E → List E → Type 0

@@ -4,7 +4,8 @@
 //! right to take it: `take` waits for the seat's turn, `give` hands the value back with at most one entry more.
 //! So there is one list for all threads. Each seat has seen a beginning of it, and knows the places of its own
 //! entries there. What it finds at a `take` begins with what it has seen, what two seats that `join` have seen are
-//! beginnings of one list, and the last seat closes the turn and has the value.
+//! beginnings of one list, and the last seat closes the turn and has the value. Beside the list the value may have
+//! a number that no turn changes, which each seat knows.
 //!
 //! The lock is a ticket lock: each call that waits draws a ticket, and its turn comes when the ticket is served.
 //! That it comes is not promised.

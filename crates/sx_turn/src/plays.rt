@@ -17,7 +17,7 @@ pub(crate) struct Look;
 impl<B: Booked> Play<Option<B>, View<B::Entry>> for Look {
     ghost use Rattle.sx_turn.specs.Moves.{LookTells};
 
-    ghost then = { LookTells B.stands B.who };
+    ghost then = { LookTells B.stands B.lasting B.who };
 }
 
 // Ends the turn, by adding 1 to word 1. The value goes home.
@@ -73,17 +73,17 @@ impl<E> Split<View<E>> for Branch {
 
     ghost left = { λ v. v };
 
-    ghost right = { λ v. newcomer v.seen v.known };
+    ghost right = { λ v. newcomer v.lasting v.seen v.known };
 }
 
 // Two views made one. The other is spent.
 pub(crate) struct Merge;
 
 impl<E> Join<View<E>> for Merge {
-    ghost use Rattle.std.specs.Prelude.{[]};
+    ghost use Rattle.std.specs.Prelude.{[], None};
     ghost use Rattle.sx_turn.specs.Views.{merged, newcomer};
 
     ghost both = { merged };
 
-    ghost spent = { newcomer [] 0 };
+    ghost spent = { newcomer None [] 0 };
 }

@@ -18,6 +18,9 @@ pub trait Booked: Send {
 
     // The number of an entry's caller.
     ghost who: { Self.Entry → ℕ };
+
+    // A number of the value that no turn changes, as a limit; 0 where there is none.
+    ghost lasting: { Self → ℕ };
 }
 
 /// What a seat knows. It exists in proofs alone.
@@ -34,6 +37,8 @@ pub struct View<E> {
     pub olds: LinkedList<LinkedList<E>>,
     /// Its ticket, from draw to next.
     pub ticket: Option<u64>,
+    /// The number of the value that no turn changes. A seat that joined another has none.
+    pub lasting: Option<u64>,
     /// How many numbers it knows to have been given out.
     pub known: u64,
     /// In its turn, the list for which the value stood as the turn began.
@@ -53,9 +58,9 @@ impl<B: Booked> TableRule<Option<B>, View<B::Entry>, Snapshot<B>> for TurnRule<B
     ghost use Rattle.sx_turn.specs.Rules.{Kept};
     ghost use Rattle.sx_turn.specs.Views.{first_view};
 
-    ghost holds = { λ _. Kept B.stands B.who };
+    ghost holds = { λ key. Kept B.stands B.lasting (B.lasting key.value) B.who };
 
-    ghost first = { λ key. first_view B.who (B.stands key.value) };
+    ghost first = { λ key. first_view B.who (B.lasting key.value) (B.stands key.value) };
 }
 
 // The table with its memory, what threads share of it, and a seat at it.

@@ -44,7 +44,7 @@ pub(crate) fn wait<B: Booked, R: Wait>(
     requires board { (place.old.table_id ≡ board.now.table_id) × IsBoard board.now.table_id }
     requires drawn { (place.old.me.0.ticket ≡ Some ticket) × (place.old.me.0.turn ≡ None) × (place.old.me.1 ≡ []) }
     ensures same { (place.new.table_id ≡ place.old.table_id) × (place.new.id ≡ place.old.id) }
-    ensures begun { TurnBegins B.stands B.who place.old.me place.new.me }
+    ensures begun { TurnBegins B.stands B.lasting B.who place.old.me place.new.me }
 {
     for _ in rt.forever() {
         if board.load::<Look>(place, 1) == ticket {
@@ -58,7 +58,7 @@ pub(crate) fn wait<B: Booked, R: Wait>(
 // Ends the turn.
 pub(crate) fn leave<B: Booked>(board: &SharedBoard<B>, place: &mut Place<B>)
     requires board { (place.old.table_id ≡ board.now.table_id) × IsBoard board.now.table_id }
-    requires whole { MayEnd B.stands B.who place.old.me }
+    requires whole { MayEnd B.stands B.lasting B.who place.old.me }
     ensures same { (place.new.table_id ≡ place.old.table_id) × (place.new.id ≡ place.old.id) }
     ensures ended { TurnEnds B.stands place.old.me place.new.me }
 {
@@ -76,6 +76,7 @@ pub(crate) fn take_value<B: Booked, R: Wait>(
     ensures same { (place.new.table_id ≡ place.old.table_id) × (place.new.id ≡ place.old.id) }
     ensures taken { (t : ℕ) × (place.new.me ≡ (in_turn (B.stands result) (with_ticket t place.old.me.0), (0, None) ∷ [])) }
     ensures extends { Extends B.who place.old.me.0 (B.stands result) }
+    ensures lasting { place.old.me.0.lasting ≡ Some (B.lasting result) }
 {
     let ticket = draw(rt, board, place);
     wait(rt, board, place, ticket);
@@ -85,7 +86,7 @@ pub(crate) fn take_value<B: Booked, R: Wait>(
 // Puts the value back, and ends the turn.
 pub(crate) fn give_value<B: Booked>(board: &SharedBoard<B>, place: &mut Place<B>, value: B)
     requires board { (place.old.table_id ≡ board.now.table_id) × IsBoard board.now.table_id }
-    requires may { MayPutBack B.stands B.who place.old.me value }
+    requires may { MayPutBack B.stands B.lasting B.who place.old.me value }
     ensures same { (place.new.table_id ≡ place.old.table_id) × (place.new.id ≡ place.old.id) }
     ensures given { place.new.me ≡ (after_next (B.stands value) place.old.me.0, []) }
 {
@@ -103,7 +104,7 @@ pub(crate) fn count_callers<B: Booked, R: Wait>(
     requires board { (place.old.table_id ≡ board.now.table_id) × IsBoard board.now.table_id }
     requires idle { IsIdle place.old.me }
     ensures same { (place.new.table_id ≡ place.old.table_id) × (place.new.id ≡ place.old.id) }
-    ensures counted { CountedInTurn B.stands B.who place.old.me result place.new.me }
+    ensures counted { CountedInTurn B.stands B.lasting B.who place.old.me result place.new.me }
 {
     let ticket = draw(rt, board, place);
     wait(rt, board, place, ticket);
@@ -118,7 +119,8 @@ pub(crate) fn draw_number<B: Booked, R: Wait>(
     place: &mut Place<B>,
 ) -> u64
     requires board { (place.old.table_id ≡ board.now.table_id) × IsBoard board.now.table_id }
-    requires fresh { place.old.me ≡ (newcomer place.old.me.0.seen place.old.me.0.known, []) }
+    requires fresh { place.old.me ≡ (newcomer place.old.me.0.lasting place.old.me.0.seen place.old.me.0.known, []) }
+    requires lasting { (l : ℕ) × (place.old.me.0.lasting ≡ Some l) }
     ensures same { (place.new.table_id ≡ place.old.table_id) × (place.new.id ≡ place.old.id) }
     ensures drawn { NumberDrawn B.who place.old.me.0 result place.new.me }
 {
@@ -130,6 +132,16 @@ pub(crate) fn draw_number<B: Booked, R: Wait>(
     }
     leave(board, place);
     callers
+}
+
+// Recalls what the seat knows.
+pub(crate) fn recall<B: Booked>(board: &SharedBoard<B>, place: &mut Place<B>)
+    requires board { (place.old.table_id ≡ board.now.table_id) × IsBoard board.now.table_id }
+    ensures same { (place.new.table_id ≡ place.old.table_id) × (place.new.id ≡ place.old.id) }
+    ensures me { place.new.me ≡ place.old.me }
+    ensures sound { IsSound B.who place.new.me.0 }
+{
+    board.load::<Recall>(place, 0);
 }
 
 // Takes in another seat, and recalls what the seat then knows.
@@ -157,8 +169,8 @@ pub(crate) fn take_out<B: Booked, R: Wait>(
     requires idle { IsIdle place.old.me }
     requires owns { owns ≡ owned_count place.old.me.0 }
     ensures same { (place.new.table_id ≡ place.old.table_id) × (place.new.id ≡ place.old.id) }
-    ensures ok { IfOk result (λ v. TakenOut B.stands B.who place.old.me.0 v × IsClosed place.new.me) }
-    ensures err { IfErr result (λ n. StillOut owns place.old.me n place.new.me) }
+    ensures ok { IfOk result (λ v. TakenOut B.stands B.lasting B.who place.old.me.0 v × IsClosed place.new.me) }
+    ensures err { IfErr result (λ n. StillOut B.who owns place.old.me n place.new.me) }
 {
     let callers = count_callers(rt, board, place);
     if callers <= owns {
@@ -194,7 +206,7 @@ pub(crate) fn open_board<B: Booked>(
     requires slots { slots.items ≡ Some about.now.value ∷ [] }
     requires own { Each (λ e. B.who e ≡ 0) (B.stands about.now.value) }
     ensures ok { IfOk result (λ t. (t.1.table_id ≡ t.0.shared.table_id) × IsBoard t.0.shared.table_id
-        × (t.1.me ≡ (first_view B.who (B.stands about.now.value), []))) }
+        × (t.1.me ≡ (first_view B.who (B.lasting about.now.value) (B.stands about.now.value), []))) }
     ensures err { IfErr result (λ v. v ≡ about.now.value) }
 {
     match Table::new(alloc, &[0, 0, 1], slots, about) {

@@ -26,6 +26,8 @@ impl Booked for Log {
     ghost stands = { λ l. l.lines.items };
 
     ghost who = { λ e. e.who };
+
+    ghost lasting = { λ _. 0 };
 }
 
 impl Log {

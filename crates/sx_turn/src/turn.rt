@@ -5,11 +5,12 @@ ghost use Rattle.sx_turn.specs.declared.turn.SeatFault.TheVariants.{NoSeat};
 ghost use Rattle.sx_turn.specs.Places.{Each};
 ghost use Rattle.sx_turn.specs.Seats.{pairs_of, HasPlacesIn, IsExact, HasNumbersBelow, HasDistinctNumbers, HasAllNumbers, OwnsEachEntry, HasEntriesBelow, first_seat, new_seat, after_take, MayGive, after_give, after_look, after_join};
 
-use crate::plays::{Branch, Merge};
+use crate::plays::Branch;
 use crate::rule::{Board, Booked};
 use crate::seat::{Held, Seat};
 use crate::steps::{
-    SEATS, draw_number, free_board, give_value, one_slot, open_board, take_in, take_out, take_value,
+    SEATS, draw_number, free_board, give_value, one_slot, open_board, recall, take_in, take_out,
+    take_value,
 };
 use std::alloc::Global;
 use std::marker::Model;
@@ -60,7 +61,7 @@ impl<B: Booked> Turn<B> {
     /// For want of memory the value comes back.
     pub fn begin(alloc: Global, value: B) -> Result<(Turn<B>, Seat<B>), B>
         requires { Each (λ e. B.who e ≡ 0) (B.stands value) }
-        ensures ok { IfOk result (λ t. t.1 ≡ first_seat B.who t.0 (B.stands value)) }
+        ensures ok { IfOk result (λ t. t.1 ≡ first_seat B.who t.0 (B.lasting value) (B.stands value)) }
         ensures err { IfErr result (λ v. v ≡ value) }
     {
         let about = Snapshot::of(&value);
@@ -81,30 +82,33 @@ impl<B: Booked> Turn<B> {
         requires own { seat.old.turn ≡ self.now }
         requires idle { seat.old.taken ≡ None }
 
-        ensures new { IfOk result (λ s. s ≡ new_seat self.now s.number s.seen) }
+        ensures new { IfOk result (λ s. s ≡ new_seat self.now seat.old.lasting s.number s.seen) }
         ensures number { IfOk result (λ s. (s.number < 64) × (seat.old.known ≤ s.number)) }
 
-        // Nobody that the asking seat knows of has the number, and no entry that was made by then.
+        // No number that the asking seat knows of is this one, and no entry that was made by then has it.
         ensures unused { IfOk result (λ s. HasNumbersBelow s.number seat.old × HasEntriesBelow B.who s.number s.seen) }
 
         ensures asked { IfOk result (λ s. seat.new ≡ after_look s.seen (s.number + 1) seat.old) }
-        ensures refused { IfErr result (λ f. (f ≡ NoSeat 64) × (seat.new ≡ after_look seat.new.seen 64 seat.old)) }
-        ensures seen { IsPrefix seat.old.seen seat.new.seen }
+        ensures refused { IfErr result (λ f. (f ≡ NoSeat 64) × (seat.new ≡ after_look seat.new.seen 64 seat.old) × (seat.old.known ≤ 64)) }
+
+        // What the asking seat has newly seen are entries of others.
+        ensures seen { IsPrefix seat.old.seen seat.new.seen × HasPlacesIn B.who seat.new.seen seat.old × IsExact B.who seat.old }
     {
         let board = &self.table.shared;
+        recall(board, &mut seat.place);
         let mut place = board.split_seat::<Branch>(&mut seat.place);
         let callers = draw_number(rt, board, &mut place);
         if callers < SEATS {
             // A copy of the new seat's view tells the asking one what that has seen.
             let note = board.split_seat::<Branch>(&mut place);
-            board.join_seat::<Merge>(&mut seat.place, note);
+            take_in(board, &mut seat.place, note);
             return Ok(Seat {
                 place,
                 number: callers as u32,
                 owns: 1,
             });
         }
-        board.join_seat::<Merge>(&mut seat.place, place);
+        take_in(board, &mut seat.place, place);
         Err(SeatFault::NoSeat(callers))
     }
 
@@ -130,23 +134,26 @@ impl<B: Booked> Turn<B> {
 
     /// Waits for the seat's turn, and takes the value. It stands for a list that begins with what the seat has
     /// seen, in which the entries of the seat's numbers are those at the places that it kept, and no others.
+    /// Its lasting number is the one that the seat knows.
     pub fn take<R: Wait>(&self, rt: &R, seat: &mut Seat<B>) -> Held<B>
         requires own { seat.old.turn ≡ self.now }
         requires idle { seat.old.taken ≡ None }
 
         ensures taken { seat.new ≡ after_take (B.stands result) seat.old }
         ensures seen { IsPrefix seat.old.seen (B.stands result) }
-        ensures exact { HasPlacesIn B.who (B.stands result) seat.old }
+        ensures exact { HasPlacesIn B.who (B.stands result) seat.old × IsExact B.who seat.old }
+        ensures lasting { B.lasting result ≡ seat.old.lasting }
     {
         let value = take_value(rt, &self.table.shared, &mut seat.place);
         Held { value }
     }
 
     /// Gives the value back, which stands for the list for which it stood at the take, or for that and one entry
-    /// of the seat's number behind it. The seat has then seen that list, and has the place of the new entry.
+    /// of the seat's number behind it, and whose lasting number is the same. The seat has then seen that list, and has
+    /// the place of the new entry.
     pub fn give(&self, seat: &mut Seat<B>, held: Held<B>)
         requires own { seat.old.turn ≡ self.now }
-        requires may { MayGive B.who seat.old (B.stands held) }
+        requires may { MayGive B.who seat.old (B.lasting held) (B.stands held) }
         ensures given { seat.new ≡ after_give (B.stands held) seat.old }
     {
         let Held { value } = held;
@@ -159,13 +166,17 @@ impl<B: Booked> Turn<B> {
         requires own { seat.turn ≡ self }
         requires idle { seat.taken ≡ None }
 
-        ensures value { IfOk result (λ v. B.stands v ≡ seat.seen) }
+        ensures value { IfOk result (λ v. (B.stands v ≡ seat.seen) × (B.lasting v ≡ seat.lasting)) }
         ensures all { IfOk result (λ _. HasAllNumbers seat × OwnsEachEntry B.who seat × IsExact B.who seat) }
+        ensures known { IfOk result (λ _. seat.known ≤ length (pairs_of seat)) }
 
         // `known` of the seat that comes back is how many numbers were given out.
         ensures out { IfErr result (λ f. (1 ≤ f.out) × (f.out + length (pairs_of seat) ≡ f.token.known)) }
         ensures back { IfErr result (λ f. (f.whole ≡ self) × (f.token ≡ after_look f.token.seen f.token.known seat)) }
-        ensures seen { IfErr result (λ f. IsPrefix seat.seen f.token.seen) }
+        ensures numbers { IfErr result (λ f. (seat.known ≤ f.token.known) × HasNumbersBelow f.token.known seat × HasDistinctNumbers seat) }
+
+        // What it has newly seen are entries of others.
+        ensures seen { IfErr result (λ f. IsPrefix seat.seen f.token.seen × HasPlacesIn B.who f.token.seen seat × IsExact B.who seat) }
     {
         let Turn { table } = self;
         let Seat {
