@@ -1,1 +1,3 @@
+pub mod Grows
+pub mod Own
 pub mod Spelled

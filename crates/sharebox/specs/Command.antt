@@ -1,15 +1,17 @@
 -- What the program does by its words, and the statuses that it ends with.
-use Rattle.std.specs.Prelude.{ℕ, codes, ◌≡◌, ◌^◌, ◌⊎◌, true, List, [], ◌∷◌, Bool, false, Option, Some, None}
+use Rattle.std.specs.Prelude.{ℕ, codes, ◌≡◌, ◌^◌, ◌⊎◌, true, List, [], ◌∷◌, ◌++◌, Bool, false, Option, Some, None}
 use Rattle.sx_base.specs.Causes.{Rose}
 use Rattle.sx_call.specs.declared.call.Call.TheVariants.{CreateShare}
 use Rattle.sx_call.specs.declared.call.Entry.{Entry}
 use Rattle.sx_call.specs.declared.call.Noted.{Noted}
 use Rattle.sx_names.specs.Names.{is_share_name}
+use Rattle.sx_turn.specs.Places.{Each}
+use Rattle.sx_book.specs.Passes.{with_noted}
 use Rattle.sx_book.specs.declared.report.Full.{Full}
 use Rattle.sx_book.specs.declared.report.ConnEnd.{ConnEnd}
 use Rattle.sx_book.specs.declared.report.ConnEnd.TheVariants as finish
 use Rattle.sx_book.specs.declared.report.ConnReport.{ConnReport}
-use Rattle.sx_smb_door.specs.Conversation.{Conversation, HasText, HasPrefix, Side, with_entry}
+use Rattle.sx_smb_door.specs.Conversation.{Conversation, HasText, HasPrefix, Side}
 
 -- the words are `session SHARE`
 abbrev pub IsSession : List (List ℕ) → List ℕ → Type 0
@@ -76,22 +78,32 @@ pub record Refused {C : Type 0} (words : List (List ℕ)) (wrote wrote' : List �
   pub kept : new ≡ record old { writes = new.writes }
   pub written : HasText wrote wrote' refusal_line ⊎ (HasPrefix wrote wrote' refusal_line × Rose old.writes new.writes)
 
--- no memory was left for the share: nothing was read or written
+-- no memory was left before the session, or the office gave no pass for it: nothing was read or written
 pub record Unmade {C : Type 0} (wrote wrote' : List ℕ → Type 0) (old new : Side C) (status : ℕ) : Type 0 where
   pub status_is : status ≡ 5
   pub kept : new ≡ record old { clock = new.clock }
   pub written : HasText wrote wrote' []
 
--- the share was made at a moment, and the session was served in the history that begins with that entry
+-- the history of the program alone: its Create Share, and behind that entries of the session's caller alone
+pub record IsOwnHistory (share : List ℕ) (moment : ℕ) (first whole : List Noted) : Type 0 where
+  pub begins : first ≡ with_noted [] (creation share moment)
+  pub rest : List Noted
+  pub goes_on : whole ≡ first ++ rest
+  pub own : Each (λ n. n.entry.who ≡ session_caller) rest
+
+-- the share was made at a moment, and the session was served behind what was seen then; the office was closed, and its history is
+-- the program's own, or it could not be closed
 pub record Served {C : Type 0} (ticks : C → ℕ → C → Type 0) (share : List ℕ) (wrote wrote' : List ℕ → Type 0) (old new : Side C) (status : ℕ) : Type 0 where
   pub moment : ℕ
   pub began : C
   pub made : ticks old.clock moment began
-  pub entries : List Noted
+  pub first : List Noted
+  pub seen : List Noted
+  pub mine : List ℕ
   pub report : ConnReport
   pub conversation : Conversation session_caller history_limit loopback input_budget share ticks wrote wrote'
-      (record old { entries = with_entry [] (creation share moment); clock = began }) (record new { entries = entries }) report
-  pub status_is : status ≡ status_of report
+      (record old { seen = first; mine = []; clock = began }) (record new { seen = seen; mine = mine }) report
+  pub closed : (IsOwnHistory share moment first seen × (status ≡ status_of report)) ⊎ (status ≡ 5)
 
 -- what a session on a share does, with the share made before it
 abbrev pub IsDone : {C : Type 0} → (C → ℕ → C → Type 0) → List ℕ → (List ℕ → Type 0) → (List ℕ → Type 0) → Side C → Side C → ℕ → Type 0

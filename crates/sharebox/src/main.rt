@@ -24,6 +24,13 @@ fn main(rt: HostRuntime) -> ExitCode {
     let mut input = Input::new(rt.reader());
     let mut out = Output::new(io::writer(&rt));
     let mut clock = SystemClock::new(rt);
-    let status = run::run(alloc, words.as_slice(), &mut input, &mut out, &mut clock);
+    let status = run::run(
+        alloc,
+        &rt,
+        words.as_slice(),
+        &mut input,
+        &mut out,
+        &mut clock,
+    );
     ExitCode::from(status)
 }

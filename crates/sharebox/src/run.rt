@@ -1,15 +1,18 @@
-ghost use Rattle.std.specs.Prelude.{◌≡◌, ◌+◌, ◌≤◌, ◌⊎◌, [], OnOk, OnErr, map, Ok};
+ghost use Rattle.std.specs.Prelude.{◌≡◌, ◌+◌, ◌≤◌, ◌⊎◌, [], true, IfOk, OnOk, OnErr, map, Ok};
 ghost use Rattle.std.specs.String.{string_bytes};
 ghost use Rattle.sx_base.specs.Causes.{Rose};
 ghost use Rattle.sx_base.specs.Moments.{greatest_moment};
-ghost use Rattle.sx_smb_door.specs.Conversation.{Conversation, Side, HasText, HasPrefix, with_entry};
-ghost use Rattle.sharebox.specs.Command.{Ran, IsDone, counted, creation, history_limit, input_budget, loopback, refusal_line, session_caller, status_of};
+ghost use Rattle.sx_book.specs.Passes.{first_pass, HasExactPlaces, OwnsEachSeen};
+ghost use Rattle.sx_smb_door.specs.Conversation.{Conversation, Side, HasText, HasPrefix};
+ghost use Rattle.sharebox.specs.Opening.{HasMade, HasOpened};
+ghost use Rattle.sharebox.specs.Command.{Ran, IsDone, counted, history_limit, input_budget, loopback, refusal_line, session_caller, status_of};
 
 use crate::words::{NoShare, session_share};
 use std::alloc::Global;
+use std::sync::Wait;
 use sx_base::{Both, Clock, NoMemory, Sink, Source};
-use sx_book::{Book, ConnEnd, ConnReport};
-use sx_call::{Call, Entry, Stop};
+use sx_book::{ConnEnd, ConnReport, Office, Pass};
+use sx_call::Call;
 use sx_names::{Quota, ShareName};
 use sx_smb_door::serve_session;
 
@@ -34,9 +37,6 @@ const HISTORY_LIMIT: u32 = 1_000_000;
 /// The quota of the session's share, in GiB.
 const SHARE_QUOTA: u32 = 5_120;
 
-/// The caller that makes the share.
-const PROGRAM: u32 = 0;
-
 /// The caller of the session.
 const SESSION_CALLER: u32 = 1;
 
@@ -46,25 +46,66 @@ const LOOPBACK: u32 = 0x7f00_0001;
 /// How many bytes of input a session may take.
 const INPUT_BUDGET: u64 = 1 << 40;
 
-/// Makes the share of a session in a history without entries.
-fn create_share(alloc: Global, book: &mut Book, share: &ShareName, now: u64) -> Result<(), NoMemory>
+/// Makes the share of a session.
+fn create_share<R: Wait>(
+    alloc: Global,
+    rt: &R,
+    office: &Office,
+    main: &mut Pass,
+    share: &ShareName,
+    now: u64,
+) -> Result<(), NoMemory>
     requires clock { now ≤ greatest_moment }
-    requires book { book.old ≡ record { entries = []; limit = history_limit } }
-    ensures ok { OnOk result (book.new ≡ record { entries = with_entry [] (creation share.now now); limit = history_limit }) }
+    requires main { main.old ≡ first_pass office.now history_limit }
+    ensures ok { OnOk result (HasMade office.now share.now now main.new) }
+    ensures own { main.new.office ≡ office.now }
 {
-    let entry = Entry {
-        who: PROGRAM,
-        session: 0,
-        at: now,
-        fresh: 0,
-        call: Call::CreateShare {
-            share: share.copy(alloc)?,
-            quota: Quota::of(SHARE_QUOTA),
-        },
+    let call = Call::CreateShare {
+        share: share.copy(alloc)?,
+        quota: Quota::of(SHARE_QUOTA),
     };
-    match book.step(entry) {
+    match office.ask(rt, main, now, 0, None, call) {
         Ok(_) => Ok(()),
         Err(_) => Err(NoMemory),
+    }
+}
+
+/// Makes the share, and takes a pass for the session, of number 1.
+fn open<R: Wait>(
+    alloc: Global,
+    rt: &R,
+    office: &Office,
+    main: &mut Pass,
+    share: &ShareName,
+    now: u64,
+) -> Result<Pass, NoMemory>
+    requires clock { now ≤ greatest_moment }
+    requires main { main.old ≡ first_pass office.now history_limit }
+    ensures ok { IfOk result (λ pass. HasOpened office.now share.now now main.new pass) }
+    ensures own { main.new.office ≡ office.now }
+{
+    create_share(alloc, rt, office, main, share, now)?;
+    let Ok(pass) = office.split(rt, main) else {
+        return Err(NoMemory);
+    };
+    if pass.number() != SESSION_CALLER {
+        office.meet(main, pass);
+        return Err(NoMemory);
+    }
+    Ok(pass)
+}
+
+/// Closes the office. Where it can't be closed it is let go of.
+fn close<R: Wait>(rt: &R, office: Office, main: Pass) -> bool
+    requires { main.office ≡ office }
+    ensures { result ≡ true → OwnsEachSeen main × HasExactPlaces main }
+{
+    match office.close(rt, main) {
+        Ok(_book) => true,
+        Err(fault) => {
+            let _out = Office::abandon(fault);
+            false
+        }
     }
 }
 
@@ -98,17 +139,21 @@ fn of_report(report: &ConnReport) -> u8
 }
 
 /// Serves one session on a share over input and output.
-fn serve<S: Source, K: Sink, C: Clock>(
+fn serve<R: Wait, S: Source, K: Sink, C: Clock>(
     alloc: Global,
-    book: &mut Book,
+    rt: &R,
+    office: &Office,
+    pass: &mut Pass,
     share: &ShareName,
     input: &mut S,
     out: &mut K,
     clock: &mut C,
 ) -> ConnReport
-    ensures { Conversation session_caller book.old.limit loopback input_budget share.now C.ticks (K.wrote out.old) (K.wrote out.new)
-        (record { left = S.left input.old; reads = S.read_count input.old; writes = K.write_count out.old; entries = book.old.entries; clock = clock.old })
-        (record { left = S.left input.new; reads = S.read_count input.new; writes = K.write_count out.new; entries = book.new.entries; clock = clock.new }) result }
+    requires { pass.old.office ≡ office.now }
+    ensures conversation { Conversation pass.old.number pass.old.limit loopback input_budget share.now C.ticks (K.wrote out.old) (K.wrote out.new)
+        (record { left = S.left input.old; reads = S.read_count input.old; writes = K.write_count out.old; seen = pass.old.seen; mine = pass.old.mine; clock = clock.old })
+        (record { left = S.left input.new; reads = S.read_count input.new; writes = K.write_count out.new; seen = pass.new.seen; mine = pass.new.mine; clock = clock.new }) result }
+    ensures pass { pass.new ≡ record pass.old { seen = pass.new.seen; mine = pass.new.mine } }
 {
     let mut link = Both {
         source: input,
@@ -117,8 +162,9 @@ fn serve<S: Source, K: Sink, C: Clock>(
     };
     serve_session(
         alloc,
-        book,
-        SESSION_CALLER,
+        rt,
+        office,
+        pass,
         share,
         &mut link,
         clock,
@@ -126,45 +172,60 @@ fn serve<S: Source, K: Sink, C: Clock>(
     )
 }
 
-/// Makes the share, and serves one session on it over input and output.
-fn session<S: Source, K: Sink, C: Clock>(
+/// Makes the share in a new office, serves one session on it over input and output through a pass of its own, and closes the
+/// office.
+fn session<R: Wait, S: Source, K: Sink, C: Clock>(
     alloc: Global,
+    rt: &R,
     share: &ShareName,
     input: &mut S,
     out: &mut K,
     clock: &mut C,
 ) -> u8
     ensures { IsDone C.ticks share.now (K.wrote out.old) (K.wrote out.new)
-        (record { left = S.left input.old; reads = S.read_count input.old; writes = K.write_count out.old; entries = []; clock = clock.old })
-        (record { left = S.left input.new; reads = S.read_count input.new; writes = K.write_count out.new; entries = []; clock = clock.new }) result }
+        (record { left = S.left input.old; reads = S.read_count input.old; writes = K.write_count out.old; seen = []; mine = []; clock = clock.old })
+        (record { left = S.left input.new; reads = S.read_count input.new; writes = K.write_count out.new; seen = []; mine = []; clock = clock.new }) result }
 {
-    let mut book = Book::new(alloc, HISTORY_LIMIT);
-    let now = clock.now();
-    if create_share(alloc, &mut book, share, now).is_err() {
+    let Ok((office, mut main)) = Office::begin(alloc, HISTORY_LIMIT) else {
         return NO_MEMORY;
+    };
+    let now = clock.now();
+    match open(alloc, rt, &office, &mut main, share, now) {
+        Ok(mut pass) => {
+            let report = serve(alloc, rt, &office, &mut pass, share, input, out, clock);
+            office.meet(&mut main, pass);
+            if close(rt, office, main) {
+                of_report(&report)
+            } else {
+                NO_MEMORY
+            }
+        }
+        Err(NoMemory) => {
+            let _closed = close(rt, office, main);
+            NO_MEMORY
+        }
     }
-    let report = serve(alloc, &mut book, share, input, out, clock);
-    of_report(&report)
 }
 
 /// Does what the words of the command line say, and gives the program's status.
 ///
 /// `session SHARE` makes the share, and serves one session on it over input and output: 0 where the input was read to its
 /// end, 2 where a line was over its limit, cut, or past the budget of bytes, 3 and 4 where a read or write failed, 5 for want of
-/// memory, 7 where the history was full. All other words are refused with 1.
-pub fn run<S: Source, K: Sink, C: Clock>(
+/// memory or where the office gave no pass or could not be closed, 7 where the history was full. All other words are refused with 1.
+pub fn run<R: Wait, S: Source, K: Sink, C: Clock>(
     alloc: Global,
+    rt: &R,
     words: &[String],
     input: &mut S,
     out: &mut K,
     clock: &mut C,
 ) -> u8
     ensures { Ran (map string_bytes words.now) C.ticks (K.wrote out.old) (K.wrote out.new)
-        (record { left = S.left input.old; reads = S.read_count input.old; writes = K.write_count out.old; entries = []; clock = clock.old })
-        (record { left = S.left input.new; reads = S.read_count input.new; writes = K.write_count out.new; entries = []; clock = clock.new }) result }
+        (record { left = S.left input.old; reads = S.read_count input.old; writes = K.write_count out.old; seen = []; mine = []; clock = clock.old })
+        (record { left = S.left input.new; reads = S.read_count input.new; writes = K.write_count out.new; seen = []; mine = []; clock = clock.new }) result }
 {
     match session_share(alloc, words) {
-        Ok(share) => session(alloc, &share, input, out, clock),
+        Ok(share) => session(alloc, rt, &share, input, out, clock),
         Err(NoShare::NoMemory) => NO_MEMORY,
         Err(NoShare::Unknown) => {
             // The words are refused where this can't be written, too.

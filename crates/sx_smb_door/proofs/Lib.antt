@@ -3,5 +3,6 @@ pub mod Answering
 pub mod Ends
 pub mod Numbers
 pub mod SessionCalls
+pub mod Sessions
 pub mod Splits
 pub mod Turns

@@ -1,13 +1,8 @@
-ghost use Rattle.std.specs.Prelude.{◌≡◌, ◌+◌, ◌-◌, ◌<◌, ◌≤◌, ◌^◌, ◌⊎◌, [], true, ℕ, Err, IfOk, OnOk, OnErr, length};
+ghost use Rattle.std.specs.Prelude.{◌≡◌, ◌+◌, ◌-◌, ◌<◌, ◌≤◌, ◌^◌, ◌⊎◌, [], true, ℕ, IfOk, length};
 ghost use Rattle.std.specs.Io.KnownBytes.{prepend_known};
-ghost use Rattle.sx_base.specs.Moments.{greatest_moment};
-ghost use Rattle.sx_call.specs.declared.call.Call.TheVariants as Call;
-ghost use Rattle.sx_spec.specs.Account.{session_of};
-ghost use Rattle.sx_spec.specs.History.{is_of_caller, wants};
-ghost use Rattle.sx_spec.specs.Step.{replay, step};
-ghost use Rattle.sx_smb_door.specs.Conversation.{Outcome, Speaker, MayTurn, history_after, answer_of, moments_of, tally_after, entry_of, start_entry, end_entry, with_entry, next_session, full_of, report_of, taken_at, unstarted as unstarted_report, Side, Served, Conversation};
-ghost use Rattle.sx_smb_door.specs.Asking.{IsLive, IsAsked, IsAnswered, noted_stop, no_tally};
-ghost use Rattle.sx_smb_door.specs.SessionLines.{has_line, is_printed};
+ghost use Rattle.sx_book.specs.Passes.{HoldsSession};
+ghost use Rattle.sx_smb_door.specs.Conversation.{Side, Served, Conversation, report_of, taken_at, end_of, unstarted as unstarted_report};
+ghost use Rattle.sx_smb_door.specs.Asking.{speaker, IsAsked, IsAnswered, noted_stop, no_tally};
 ghost use Rattle.sx_smb_door.specs.Spelling.{is_session_call};
 
 use crate::answer::{LineAnswer, print_line};
@@ -15,88 +10,11 @@ use crate::lines::{LineReader, NextLine};
 use crate::parse::call_of_line;
 use crate::tally::Tally;
 use std::alloc::Global;
+use std::sync::Wait;
 use sx_base::{Clock, Link};
-use sx_book::{Book, ConnEnd, ConnReport, Full};
-use sx_call::{Call, Entry, Reply, Stop};
+use sx_book::{ConnEnd, ConnReport, Full, Office, Pass, Session};
+use sx_call::{Call, Stop};
 use sx_names::ShareName;
-
-/// Who speaks in which session.
-#[derive(Clone, Copy)]
-struct Party {
-    who: u32,
-    session: u32,
-}
-
-/// Starts a session of a caller.
-fn start(book: &mut Book, who: u32, now: u64, peer: u32) -> Result<u32, Stop>
-    requires { now ≤ greatest_moment }
-    ensures number { IfOk result (λ session. session ≡ next_session book.old.entries) }
-    ensures entries { OnOk result (book.new ≡ record { entries = with_entry book.old.entries (start_entry who book.old.entries now peer); limit = book.old.limit }) }
-    ensures room { OnOk result (length book.old.entries + wants (replay book.old.entries) (Call.Start peer) ≤ book.old.limit) }
-    ensures live { IfOk result (λ session. IsLive book.new.entries who session) }
-    ensures full { (entries sessions limit : ℕ) → result ≡ Err (Stop.HistoryFull entries sessions limit) →
-        (book.old.limit < length book.old.entries + wants (replay book.old.entries) (Call.Start peer)) × (record { entries = entries; sessions = sessions; limit = limit } ≡ full_of book.old.limit book.old.entries) }
-    ensures err { OnErr result (book.new ≡ book.old) }
-{
-    book.keeps();
-    let at = book.last_moment().max(now);
-    let entry = Entry {
-        who,
-        session: 0,
-        at,
-        fresh: 0,
-        call: Call::Start { peer },
-    };
-    match book.step(entry) {
-        Ok(_) => {}
-        Err(stop) => return Err(stop),
-    }
-    Ok(book.started())
-}
-
-/// Ends a session. It can't be refused.
-fn end(book: &mut Book, party: Party, now: u64)
-    requires clock { now ≤ greatest_moment }
-    requires live { IsLive book.old.entries party.who party.session }
-    ensures { book.new ≡ record { entries = with_entry book.old.entries (end_entry party.who party.session book.old.entries now); limit = book.old.limit } }
-{
-    let at = book.last_moment().max(now);
-    let entry = Entry {
-        who: party.who,
-        session: party.session,
-        at,
-        fresh: 0,
-        call: Call::End,
-    };
-    match book.step(entry) {
-        Ok(_) => {}
-        Err(_) => unreachable!(),
-    }
-}
-
-/// Asks a call of a session.
-fn ask(book: &mut Book, party: Party, now: u64, call: Call) -> Result<Reply, Stop>
-    requires clock { now ≤ greatest_moment }
-    requires live { IsLive book.old.entries party.who party.session }
-    requires call { is_session_call call ≡ true }
-    ensures reply { IfOk result (λ reply. reply ≡ (step (replay book.old.entries) (entry_of party.who party.session book.old.entries now call)).1) }
-    ensures lined { IfOk result (λ reply. has_line reply ≡ true) }
-    ensures entries { OnOk result (book.new ≡ record { entries = with_entry book.old.entries (entry_of party.who party.session book.old.entries now call); limit = book.old.limit }) }
-    ensures room { OnOk result (length book.old.entries + wants (replay book.old.entries) call ≤ book.old.limit) }
-    ensures full { (entries sessions limit : ℕ) → result ≡ Err (Stop.HistoryFull entries sessions limit) →
-        (book.old.limit < length book.old.entries + wants (replay book.old.entries) call) × (record { entries = entries; sessions = sessions; limit = limit } ≡ full_of book.old.limit book.old.entries) }
-    ensures err { OnErr result (book.new ≡ book.old) }
-    ensures live { IsLive book.new.entries party.who party.session }
-{
-    let at = book.last_moment().max(now);
-    book.step(Entry {
-        who: party.who,
-        session: party.session,
-        at,
-        fresh: 0,
-        call,
-    })
-}
 
 /// Counts a call that came to no place.
 fn note(tally: &mut Tally, stop: Stop)
@@ -119,23 +37,28 @@ fn note(tally: &mut Tally, stop: Stop)
 }
 
 /// Asks the call of a line, and gives the answer.
-fn answer_call<C: Clock>(
-    book: &mut Book,
-    party: Party,
+fn answer_call<R: Wait, C: Clock>(
+    rt: &R,
+    office: &Office,
+    pass: &mut Pass,
+    session: &Session,
     clock: &mut C,
     tally: &mut Tally,
     call: Call,
 ) -> LineAnswer
-    requires live { IsLive book.old.entries party.who party.session }
+    requires own { pass.old.office ≡ office.now }
+    requires held { HoldsSession pass.old session.now }
     requires call { is_session_call call ≡ true }
     requires asked { tally.old.asked + 1 < 2 ^ 64 }
-    ensures { IsAsked party.who party.session C.ticks call book.old book.new clock.old clock.new tally.old tally.new result }
+    ensures { IsAsked session.now C.ticks call pass.old pass.new clock.old clock.new tally.old tally.new result }
 {
     let now = clock.now();
-    let place = book.entries().len() as u64 + 1;
     tally.asked += 1;
-    match ask(book, party, now, call) {
-        Ok(reply) => LineAnswer::Core { place, reply },
+    match office.ask(rt, pass, now, 0, Some(session), call) {
+        Ok(receipt) => LineAnswer::Core {
+            place: receipt.place,
+            reply: receipt.reply,
+        },
         Err(stop) => {
             note(tally, stop);
             LineAnswer::Stop(stop)
@@ -144,18 +67,21 @@ fn answer_call<C: Clock>(
 }
 
 /// Answers one line.
-fn answer_line<C: Clock>(
+fn answer_line<R: Wait, C: Clock>(
     alloc: Global,
-    book: &mut Book,
-    party: Party,
+    rt: &R,
+    office: &Office,
+    pass: &mut Pass,
+    session: &Session,
     share: &ShareName,
     clock: &mut C,
     tally: &mut Tally,
     line: &[u8],
 ) -> LineAnswer
-    requires live { IsLive book.old.entries party.who party.session }
+    requires own { pass.old.office ≡ office.now }
+    requires held { HoldsSession pass.old session.now }
     requires asked { tally.old.asked + 1 < 2 ^ 64 }
-    ensures { IsAnswered (record { who = party.who; session = party.session; share = share.now; limit = book.old.limit }) C.ticks line.now book.old book.new clock.old clock.new tally.old tally.new result }
+    ensures { IsAnswered session.now share.now C.ticks line.now pass.old pass.new clock.old clock.new tally.old tally.new result }
 {
     match call_of_line(alloc, share, line) {
         Err(_) => {
@@ -163,29 +89,32 @@ fn answer_line<C: Clock>(
             LineAnswer::Stop(Stop::NoMemory)
         }
         Ok(None) => LineAnswer::NotBuilt,
-        Ok(Some(call)) => answer_call(book, party, clock, tally, call),
+        Ok(Some(call)) => answer_call(rt, office, pass, session, clock, tally, call),
     }
 }
 
 /// Answers the lines of a link until no more are given, and says how they ended.
-fn serve_lines<L: Link, C: Clock>(
+fn serve_lines<R: Wait, L: Link, C: Clock>(
     alloc: Global,
-    book: &mut Book,
-    party: Party,
+    rt: &R,
+    office: &Office,
+    pass: &mut Pass,
+    session: &Session,
     share: &ShareName,
     link: &mut L,
     clock: &mut C,
     reader: &mut LineReader,
     tally: &mut Tally,
 ) -> ConnEnd
-    requires live { IsLive book.old.entries party.who party.session }
+    requires own { pass.old.office ≡ office.now }
+    requires held { HoldsSession pass.old session.now }
     requires reader { (reader.old.held ≡ []) × (reader.old.taken ≡ 0) }
     requires tally { tally.old ≡ no_tally }
-    ensures served { Served (record { who = party.who; session = party.session; share = share.now; limit = book.old.limit }) reader.old.budget C.ticks (L.wrote link.old) (L.wrote link.new)
-        (record { left = L.left link.old; reads = L.read_count link.old; writes = L.write_count link.old; entries = book.old.entries; clock = clock.old })
-        (record { left = L.left link.new; reads = L.read_count link.new; writes = L.write_count link.new; entries = book.new.entries; clock = clock.new }) tally.new result reader.new.taken }
-    ensures live { IsLive book.new.entries party.who party.session }
-    ensures limit { book.new.limit ≡ book.old.limit }
+    ensures served { Served (speaker pass.old session.now share.now) reader.old.budget C.ticks (L.wrote link.old) (L.wrote link.new)
+        (record { left = L.left link.old; reads = L.read_count link.old; writes = L.write_count link.old; seen = pass.old.seen; mine = pass.old.mine; clock = clock.old })
+        (record { left = L.left link.new; reads = L.read_count link.new; writes = L.write_count link.new; seen = pass.new.seen; mine = pass.new.mine; clock = clock.new }) tally.new result reader.new.taken }
+    ensures held { HoldsSession pass.new session.now }
+    ensures pass { pass.new ≡ record pass.old { seen = pass.new.seen; mine = pass.new.mine } }
     ensures within { reader.new.taken + length reader.new.held ≤ reader.old.budget }
     ensures calls { L.calls link.old link.new }
 {
@@ -194,7 +123,17 @@ fn serve_lines<L: Link, C: Clock>(
             NextLine::Line(line) => {
                 // Each call that was asked took a byte or more, so that their count fits as the bytes' does.
                 let _taken = reader.taken();
-                let answer = answer_line(alloc, book, party, share, clock, tally, line.as_slice());
+                let answer = answer_line(
+                    alloc,
+                    rt,
+                    office,
+                    pass,
+                    session,
+                    share,
+                    clock,
+                    tally,
+                    line.as_slice(),
+                );
                 match print_line(link, &answer) {
                     Ok(()) => {}
                     Err(_) => return ConnEnd::WriteFault,
@@ -245,46 +184,52 @@ fn unstarted(end: ConnEnd) -> ConnReport
     }
 }
 
-/// Serves one session on a share: starts it, answers its lines until no more are given or the budget of bytes is spent,
-/// and ends it.
+/// The report of a session whose start came to no place.
+fn refused(stop: Stop) -> ConnReport
+    ensures { result ≡ unstarted_report (end_of stop) }
+{
+    match stop {
+        Stop::NoMemory => unstarted(ConnEnd::NoMemory),
+        Stop::HistoryFull {
+            entries,
+            sessions,
+            limit,
+        } => unstarted(ConnEnd::Full(Full {
+            entries,
+            sessions,
+            limit,
+        })),
+    }
+}
+
+/// Serves one session on a share through an office: starts it, answers its lines until no more are given or the budget of
+/// bytes is spent, and ends it. Others may ask the office meanwhile.
 ///
 /// Where the start is refused, no byte is read or written: the report's end is then `Full` or `NoMemory`. `WriteFault` and
 /// `ReadFault` come only where the link's counts of failures rose. Every session that was started is ended.
-pub fn serve_session<L: Link, C: Clock>(
+pub fn serve_session<R: Wait, L: Link, C: Clock>(
     alloc: Global,
-    book: &mut Book,
-    who: u32,
+    rt: &R,
+    office: &Office,
+    pass: &mut Pass,
     share: &ShareName,
     link: &mut L,
     clock: &mut C,
     budget: u64,
 ) -> ConnReport
-    ensures conversation { Conversation who book.old.limit (L.peer_of link.old) budget share.now C.ticks (L.wrote link.old) (L.wrote link.new)
-        (record { left = L.left link.old; reads = L.read_count link.old; writes = L.write_count link.old; entries = book.old.entries; clock = clock.old })
-        (record { left = L.left link.new; reads = L.read_count link.new; writes = L.write_count link.new; entries = book.new.entries; clock = clock.new }) result }
-    ensures limit { book.new.limit ≡ book.old.limit }
+    requires own { pass.old.office ≡ office.now }
+    ensures conversation { Conversation pass.old.number pass.old.limit (L.peer_of link.old) budget share.now C.ticks (L.wrote link.old) (L.wrote link.new)
+        (record { left = L.left link.old; reads = L.read_count link.old; writes = L.write_count link.old; seen = pass.old.seen; mine = pass.old.mine; clock = clock.old })
+        (record { left = L.left link.new; reads = L.read_count link.new; writes = L.write_count link.new; seen = pass.new.seen; mine = pass.new.mine; clock = clock.new }) result }
+    ensures pass { pass.new ≡ record pass.old { seen = pass.new.seen; mine = pass.new.mine } }
     ensures calls { L.calls link.old link.new }
 {
     let peer = link.peer();
     let now = clock.now();
-    let session = match start(book, who, now, peer) {
-        Ok(session) => session,
-        Err(Stop::NoMemory) => return unstarted(ConnEnd::NoMemory),
-        Err(
-            Stop::HistoryFull {
-                entries,
-                sessions,
-                limit,
-            },
-        ) => {
-            return unstarted(ConnEnd::Full(Full {
-                entries,
-                sessions,
-                limit,
-            }));
-        }
+    let session = match office.start(rt, pass, now, peer) {
+        Ok((session, _receipt)) => session,
+        Err(stop) => return refused(stop),
     };
-    let party = Party { who, session };
     let mut reader = LineReader::new(alloc, budget);
     let mut tally = Tally {
         asked: 0,
@@ -293,8 +238,10 @@ pub fn serve_session<L: Link, C: Clock>(
     };
     let finish = serve_lines(
         alloc,
-        book,
-        party,
+        rt,
+        office,
+        pass,
+        &session,
         share,
         link,
         clock,
@@ -302,6 +249,6 @@ pub fn serve_session<L: Link, C: Clock>(
         &mut tally,
     );
     let now = clock.now();
-    end(book, party, now);
+    let _receipt = office.end_session(rt, pass, now, session);
     report(finish, reader.taken(), budget, tally)
 }

@@ -14,4 +14,4 @@ pub returns-in-Ok-Some : goal.returns-in-Ok-Some
 returns-in-Ok-Some g c =
     let is : call_of c.args.share.now c.args.line.now ≡ Some c.in-Ok-Some.call =
     let h : c.in-Ok-Some.field-0 ≡ call_of c.args.share.now c.args.line.now = c.in-Ok-Some.ensures in sym h ∙ c.in-Ok-Some.field-0-is in
-    asked_line c.args.party.who c.args.party.session c.args.share.now g.C.Clock.ticks c.args.line.now c.in-Ok-Some.call c.args.book.now c.answer_call.new.book c.args.clock.now c.answer_call.new.clock c.args.tally.now c.answer_call.new.tally c.answer_call.result is c.answer_call.ensures
+    asked_line c.args.session.now c.args.share.now g.C.Clock.ticks c.args.line.now c.in-Ok-Some.call c.args.pass.now c.answer_call.new.pass c.args.clock.now c.answer_call.new.clock c.args.tally.now c.answer_call.new.tally c.answer_call.result is c.answer_call.ensures

@@ -1,11 +1,12 @@
-use Rattle.std.proofs.Common.{◌≡◌, ℕ, List, [], Some, Option, inl, inr, refl, sym, ap, ◌∙◌, subst, arith}
+use Rattle.std.proofs.Common.{◌≡◌, ◌++◌, ℕ, List, [], Some, Option, inl, inr, refl, sym, ap, ◌∙◌, subst, arith}
 use Rattle.std.specs.Io.KnownBytes.{prepend_known, Consumes, Keeps}
 use Rattle.std.proofs.KnownBytes.{prepend_known-nil}
 use Rattle.sx_base.proofs.Streams.{keeps_same}
 use Rattle.sx_book.specs.declared.report.ConnEnd.TheVariants as finish
-use Rattle.sx_spec.specs.History.{History}
-use Rattle.sx_smb_door.specs.Asking.{IsAnswered}
-use Rattle.sx_smb_door.specs.Conversation.{Speaker, answers_to}
+use Rattle.sx_call.specs.declared.call.Noted.{Noted}
+use Rattle.sx_book.specs.Passes.{PassView}
+use Rattle.sx_smb_door.specs.Asking.{speaker, with_places, IsAnswered}
+use Rattle.sx_smb_door.specs.Conversation.{answers_to}
 use Rattle.sx_smb_door.specs.Lines.{stream, ended}
 use Rattle.sx_smb_door.specs.SessionLines.{lined}
 use Rattle.sx_smb_door.specs.declared.answer.LineAnswer.TheVariants.{Long}
@@ -16,11 +17,13 @@ use Rattle.sx_smb_door.proofs.session.serve_lines.Goals as goal
 
 pub loop-line-init : goal.loop-line-init
 loop-line-init g c =
-    let w : Speaker = record { who = c.args.party.who; session = c.args.party.session; share = c.args.share.now; limit = c.args.book.now.limit } in
+    let session = c.args.session.now in
+    let share = c.args.share.now in
     record {
-      run = run_none w g.C.Clock.ticks (stream c.args.reader.now (g.L.Source.left c.args.link.now)) c.args.book.now.entries c.args.clock.now c.args.tally.now c.args.reader.now.taken (g.L.Sink.wrote c.args.link.now) c.requires.tally c.requires.reader.1;
-      live = c.requires.live;
-      limit = refl;
+      run = run_none session share g.C.Clock.ticks (stream c.args.reader.now (g.L.Source.left c.args.link.now)) c.args.pass.now c.args.clock.now c.args.tally.now c.args.reader.now.taken (g.L.Sink.wrote c.args.link.now) c.requires.tally c.requires.reader.1;
+      held = c.requires.held;
+      own = c.requires.own;
+      pass = refl;
       budget = refl;
       asked = omega (arith, ap (λ (t : Tally). t.asked) c.requires.tally);
       reads = omega arith;
@@ -28,26 +31,34 @@ loop-line-init g c =
       calls = g.met.L.Link.calls_none c.args.link.now;
     }
 
+-- a pass changes what it has seen and its places alone
+pass_kept : (p0 p1 p2 : PassView) (seen : List Noted) (places : List ℕ) → p1 ≡ record p0 { seen = p1.seen; mine = p1.mine } → p2 ≡ with_places p1 seen places → p2 ≡ record p0 { seen = p2.seen; mine = p2.mine }
+pass_kept p0 p1 p2 seen places first then =
+    let all : p2 ≡ record p0 { seen = seen; mine = p1.mine ++ places } = then ∙ ap (λ (p : PassView). record p { seen = seen; mine = p1.mine ++ places }) first in
+    all ∙ ap (λ (p : PassView). record p0 { seen = p.seen; mine = p.mine }) (sym all)
+
 pub loop-line-preserved : goal.loop-line-preserved
 loop-line-preserved g c =
     let l = c.loop-line in
     let inv = l.invariant in
-    let w : Speaker = record { who = c.args.party.who; session = c.args.party.session; share = c.args.share.now; limit = c.args.book.now.limit } in
-    let P : List ℕ → ℕ → Type 0 = λ line n. IsAnswered (record { who = c.args.party.who; session = c.args.party.session; share = c.args.share.now; limit = n }) g.C.Clock.ticks line l.book c.answer_line-answer.new.book l.clock c.answer_line-answer.new.clock l.tally c.answer_line-answer.new.tally c.answer_line-answer.result in
-    let a = subst (P c.in-Line.line) inv.limit (subst (λ (line : List ℕ). P line l.book.limit) c.as_slice.ensures c.answer_line-answer.ensures) in
+    let session = c.args.session.now in
+    let share = c.args.share.now in
+    let P : List ℕ → Type 0 = λ line. IsAnswered session share g.C.Clock.ticks line l.pass c.answer_line-answer.new.pass l.clock c.answer_line-answer.new.clock l.tally c.answer_line-answer.new.tally c.answer_line-answer.result in
+    let a = subst P c.as_slice.ensures c.answer_line-answer.ensures in
     let given = c.in-Line.ensures.answered in
     let reads = g.met.L.Link.read_keeps l.link c.next.new.source c.next.ensures.step in
     let puts = g.met.L.Link.put_keeps c.next.new.source c.print_line.new.sink c.in-Ok.ensures.step in
     let bytes = subst (λ (x : Option (List ℕ)). Consumes (stream l.reader (g.L.Source.left l.link)) (stream c.next.new.self x) (ended c.in-Line.line)) (sym puts.rest) given.bytes in
     record {
-      run = run_more w g.C.Clock.ticks (stream c.args.reader.now (g.L.Source.left c.args.link.now)) (stream l.reader (g.L.Source.left l.link)) (stream c.next.new.self (g.L.Source.left c.print_line.new.sink))
-          c.args.book.now.entries l.book c.answer_line-answer.new.book c.args.clock.now l.clock c.answer_line-answer.new.clock l.tally c.answer_line-answer.new.tally l.reader.taken c.next.new.self.taken
+      run = run_more session share g.C.Clock.ticks (stream c.args.reader.now (g.L.Source.left c.args.link.now)) (stream l.reader (g.L.Source.left l.link)) (stream c.next.new.self (g.L.Source.left c.print_line.new.sink))
+          c.args.pass.now l.pass c.answer_line-answer.new.pass c.args.clock.now l.clock c.answer_line-answer.new.clock l.tally c.answer_line-answer.new.tally l.reader.taken c.next.new.self.taken
           (g.L.Sink.wrote c.args.link.now) (g.L.Sink.wrote l.link) (g.L.Sink.wrote c.next.new.source) (g.L.Sink.wrote c.print_line.new.sink) c.in-Line.line c.answer_line-answer.result
           inv.run given.one given.short bytes given.taken a (λ m. (reads.written m).0) c.in-Ok.ensures.ok.behind;
-      live = a.live;
-      limit = ap (λ (h : History). h.limit) a.history ∙ inv.limit;
+      held = a.held;
+      own = ap (λ (p : PassView). p.office) a.pass ∙ inv.own;
+      pass = pass_kept c.args.pass.now l.pass c.answer_line-answer.new.pass _ _ inv.pass a.pass;
       budget = given.budget ∙ inv.budget;
-      asked = omega (arith, inv.asked, given.taken, ap (λ (t : Tally). t.asked) a.tallied, asked_after w l.book.entries l.tally a.outcome);
+      asked = omega (arith, inv.asked, given.taken, ap (λ (t : Tally). t.asked) a.tallied, asked_after (speaker l.pass session share) l.tally a.outcome);
       reads = omega (arith, inv.reads, c.next.ensures.later, puts.faults);
       writes = omega (arith, inv.writes, reads.faults, c.in-Ok.ensures.cause.later);
       calls = g.met.L.Link.calls_more c.args.link.now c.next.new.source c.print_line.new.sink
@@ -67,18 +78,19 @@ pub returns-in-Err-clause-served : goal.returns-in-Err-clause-served
 returns-in-Err-clause-served g c =
     let l = c.loop-line in
     let inv = l.invariant in
-    let w : Speaker = record { who = c.args.party.who; session = c.args.party.session; share = c.args.share.now; limit = c.args.book.now.limit } in
-    let P : List ℕ → ℕ → Type 0 = λ line n. IsAnswered (record { who = c.args.party.who; session = c.args.party.session; share = c.args.share.now; limit = n }) g.C.Clock.ticks line l.book c.answer_line-answer.new.book l.clock c.answer_line-answer.new.clock l.tally c.answer_line-answer.new.tally c.answer_line-answer.result in
-    let a = subst (P c.in-Line.line) inv.limit (subst (λ (line : List ℕ). P line l.book.limit) c.as_slice.ensures c.answer_line-answer.ensures) in
+    let session = c.args.session.now in
+    let share = c.args.share.now in
+    let P : List ℕ → Type 0 = λ line. IsAnswered session share g.C.Clock.ticks line l.pass c.answer_line-answer.new.pass l.clock c.answer_line-answer.new.clock l.tally c.answer_line-answer.new.tally c.answer_line-answer.result in
+    let a = subst P c.as_slice.ensures c.answer_line-answer.ensures in
     let given = c.in-Line.ensures.answered in
     let reads = g.met.L.Link.read_keeps l.link c.next.new.source c.next.ensures.step in
     let puts = g.met.L.Link.put_keeps c.next.new.source c.print_line.new.sink c.in-Err.ensures.step in
     let rest = stream c.next.new.self (g.L.Source.left c.next.new.source) in
-    let run = run_breaks w g.C.Clock.ticks (stream c.args.reader.now (g.L.Source.left c.args.link.now)) (stream l.reader (g.L.Source.left l.link)) rest
-    c.args.book.now.entries l.book c.answer_line-answer.new.book c.args.clock.now l.clock c.answer_line-answer.new.clock l.tally c.answer_line-answer.new.tally l.reader.taken c.next.new.self.taken
+    let run = run_breaks session share g.C.Clock.ticks (stream c.args.reader.now (g.L.Source.left c.args.link.now)) (stream l.reader (g.L.Source.left l.link)) rest
+    c.args.pass.now l.pass c.answer_line-answer.new.pass c.args.clock.now l.clock c.answer_line-answer.new.clock l.tally c.answer_line-answer.new.tally l.reader.taken c.next.new.self.taken
     (g.L.Sink.wrote c.args.link.now) (g.L.Sink.wrote l.link) (g.L.Sink.wrote c.next.new.source) (g.L.Sink.wrote c.print_line.new.sink) c.in-Line.line c.answer_line-answer.result
     inv.run given.one given.short given.bytes given.taken a (λ m. (reads.written m).0) c.in-Err.ensures.err.behind in
-    served_by w c.args.reader.now.budget g.C.Clock.ticks (g.L.Sink.wrote c.args.link.now) (g.L.Sink.wrote c.print_line.new.sink) _ _ c.answer_line-answer.new.tally finish.WriteFault (stream c.args.reader.now (g.L.Source.left c.args.link.now)) rest c.next.new.self.held c.next.new.self.taken c.next.new.self.taken
+    served_by session share c.args.reader.now.budget g.C.Clock.ticks (g.L.Sink.wrote c.args.link.now) (g.L.Sink.wrote c.print_line.new.sink) _ _ _ _ _ _ c.args.pass.now c.answer_line-answer.new.pass c.args.clock.now c.answer_line-answer.new.clock c.answer_line-answer.new.tally finish.WriteFault (stream c.args.reader.now (g.L.Source.left c.args.link.now)) rest c.next.new.self.held c.next.new.self.taken c.next.new.self.taken
     run.0 (left_first c.args.reader.now.held (g.L.Source.left c.args.link.now) c.requires.reader.0) refl (omega (arith, given.within, given.budget, inv.budget))
     (unread_kept rest c.next.new.self.held (g.L.Source.left c.next.new.source) (g.L.Source.left c.print_line.new.sink) puts.rest (keeps_same rest)) (inl run.1)
     (omega (arith, inv.writes, reads.faults, c.in-Err.ensures.cause.failed))
@@ -87,13 +99,14 @@ pub returns-in-Ok-print_line-clause-served : goal.returns-in-Ok-print_line-claus
 returns-in-Ok-print_line-clause-served g c =
     let l = c.loop-line in
     let inv = l.invariant in
-    let w : Speaker = record { who = c.args.party.who; session = c.args.party.session; share = c.args.share.now; limit = c.args.book.now.limit } in
+    let session = c.args.session.now in
+    let share = c.args.share.now in
     let given = c.in-Long.ensures.answered in
     let reads = g.met.L.Link.read_keeps l.link c.next.new.source c.next.ensures.step in
     let puts = g.met.L.Link.put_keeps c.next.new.source c.print_line-in-Long.new.sink c.in-Ok-print_line.ensures.step in
-    let said = answers_to w c.args.book.now.entries inv.run.0.turns in
+    let said = answers_to (speaker c.args.pass.now session share) inv.run.0.turns in
     let rest = stream l.reader (g.L.Source.left l.link) in
-    served_by w c.args.reader.now.budget g.C.Clock.ticks (g.L.Sink.wrote c.args.link.now) (g.L.Sink.wrote c.print_line-in-Long.new.sink) _ _ l.tally (finish.Closed (Some c.in-Long.at)) (stream c.args.reader.now (g.L.Source.left c.args.link.now)) rest c.next.new.self.held l.reader.taken c.next.new.self.taken
+    served_by session share c.args.reader.now.budget g.C.Clock.ticks (g.L.Sink.wrote c.args.link.now) (g.L.Sink.wrote c.print_line-in-Long.new.sink) _ _ _ _ _ _ c.args.pass.now l.pass c.args.clock.now l.clock l.tally (finish.Closed (Some c.in-Long.at)) (stream c.args.reader.now (g.L.Source.left c.args.link.now)) rest c.next.new.self.held l.reader.taken c.next.new.self.taken
     inv.run.0 (left_first c.args.reader.now.held (g.L.Source.left c.args.link.now) c.requires.reader.0) given.0.taken (omega (arith, c.next.ensures.within, given.0.budget, inv.budget))
     (unread_kept rest c.next.new.self.held (g.L.Source.left c.next.new.source) (g.L.Source.left c.print_line-in-Long.new.sink) puts.rest given.0.bytes)
     (text_more (g.L.Sink.wrote c.args.link.now) (g.L.Sink.wrote c.next.new.source) (g.L.Sink.wrote c.print_line-in-Long.new.sink) said (lined Long)
@@ -104,13 +117,14 @@ pub returns-in-Err-print_line-clause-served : goal.returns-in-Err-print_line-cla
 returns-in-Err-print_line-clause-served g c =
     let l = c.loop-line in
     let inv = l.invariant in
-    let w : Speaker = record { who = c.args.party.who; session = c.args.party.session; share = c.args.share.now; limit = c.args.book.now.limit } in
+    let session = c.args.session.now in
+    let share = c.args.share.now in
     let given = c.in-Long.ensures.answered in
     let reads = g.met.L.Link.read_keeps l.link c.next.new.source c.next.ensures.step in
     let puts = g.met.L.Link.put_keeps c.next.new.source c.print_line-in-Long.new.sink c.in-Err-print_line.ensures.step in
-    let said = answers_to w c.args.book.now.entries inv.run.0.turns in
+    let said = answers_to (speaker c.args.pass.now session share) inv.run.0.turns in
     let rest = stream l.reader (g.L.Source.left l.link) in
-    served_by w c.args.reader.now.budget g.C.Clock.ticks (g.L.Sink.wrote c.args.link.now) (g.L.Sink.wrote c.print_line-in-Long.new.sink) _ _ l.tally finish.WriteFault (stream c.args.reader.now (g.L.Source.left c.args.link.now)) rest c.next.new.self.held l.reader.taken c.next.new.self.taken
+    served_by session share c.args.reader.now.budget g.C.Clock.ticks (g.L.Sink.wrote c.args.link.now) (g.L.Sink.wrote c.print_line-in-Long.new.sink) _ _ _ _ _ _ c.args.pass.now l.pass c.args.clock.now l.clock l.tally finish.WriteFault (stream c.args.reader.now (g.L.Source.left c.args.link.now)) rest c.next.new.self.held l.reader.taken c.next.new.self.taken
     inv.run.0 (left_first c.args.reader.now.held (g.L.Source.left c.args.link.now) c.requires.reader.0) given.0.taken (omega (arith, c.next.ensures.within, given.0.budget, inv.budget))
     (unread_kept rest c.next.new.self.held (g.L.Source.left c.next.new.source) (g.L.Source.left c.print_line-in-Long.new.sink) puts.rest given.0.bytes)
     (inr (
