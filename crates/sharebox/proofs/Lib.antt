@@ -1,3 +1,4 @@
+pub mod Closed
 pub mod Grows
 pub mod Own
 pub mod Spelled
