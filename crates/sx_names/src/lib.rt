@@ -5,12 +5,14 @@ mod part;
 mod path;
 mod quota;
 mod share;
+mod text;
 mod unnamed;
 
 pub use part::{Folded, Part};
 pub use path::Path;
 pub use quota::Quota;
 pub use share::ShareName;
+pub use text::Text;
 pub use unnamed::Unnamed;
 
 #[cfg(test)]

@@ -1,0 +1,31 @@
+use http::Method;
+use sx_base::Items;
+use sx_names::Text;
+
+/// A header of a request: its name in lower case, and its value without the white space around it.
+///
+/// A value may have bytes past ASCII that aren't UTF-8 (RFC 9110, section 5.5).
+#[derive(Debug, Drop)]
+pub struct Header {
+    pub name: Text,
+    pub value: Items<u8>,
+}
+
+/// The head of a request: its method, its target as it stood, whether its version is HTTP/1.1 (and not 1.0), and its headers
+/// in their order (RFC 9112, sections 2 to 5).
+///
+/// Contracts see the method and the target as their bytes. That names are in lower case is said where a head is read.
+#[derive(Debug, Drop)]
+pub struct Head {
+    pub method: Method,
+    pub target: Text,
+    pub v11: bool,
+    pub headers: Items<Header>,
+}
+
+/// A head, and as many body bytes as its Content-Length states, or none.
+#[derive(Debug, Drop)]
+pub struct Request {
+    pub head: Head,
+    pub body: Items<u8>,
+}
