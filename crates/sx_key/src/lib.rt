@@ -19,3 +19,6 @@ pub use digest::hmac;
 pub use fault::AuthFault;
 pub use laws::signed_heads_pass;
 pub use signing::{sign, string_to_sign};
+
+#[cfg(test)]
+mod tests;
