@@ -1,16 +1,13 @@
 -- What is signed passes the check while its date is timely.
-use Rattle.std.proofs.Common.{◌≡◌, ℕ, Bool, true, List, [], ◌∷◌, ◌++◌, map, Option, Some, Ok, Err, refl, sym, ap, ◌∙◌, codes}
+use Rattle.std.proofs.Common.{◌≡◌, ℕ, true, List, [], ◌∷◌, ◌++◌, map, Ok, Err, refl, sym, ap, ◌∙◌, codes}
 use Rattle.std.specs.Prelude.{bytes_eq}
 use Rattle.std.specs.List.{filter}
 use Rattle.std.proofs.lemmas.Slice.Eq.{bytes_eq-Decides}
-use Rattle.base64.specs.GeneralPurpose.{IsBytes, encode_of}
-use Rattle.base64.specs.Engines.{standard}
 use Rattle.sx_http.specs.declared.heads.Head.{Head}
 use Rattle.sx_http.specs.declared.heads.Header.{Header}
 use Rattle.sx_key.specs.declared.account.Account.{Account}
-use Rattle.sx_key.specs.declared.sent.Sent.{Sent}
 use Rattle.sx_key.specs.Answers.{Checked, with_next}
-use Rattle.sx_key.specs.Auth.{sent, sent_of, is_of, dated, is_timely, is_signed, only_sent, auth}
+use Rattle.sx_key.specs.Auth.{sent, dated, is_timely}
 use Rattle.sx_key.specs.Law.{SignedPasses, authorization_header, signed_head}
 use Rattle.sx_key.specs.Named.{values}
 use Rattle.sx_key.specs.Signature.{signature, authorization, string_to_sign}

@@ -1,7 +1,7 @@
 -- A header that isn't signed leaves the signed text as it was.
-use Rattle.std.proofs.Common.{◌≡◌, ℕ, Bool, true, false, List, [], ◌∷◌, ◌++◌, map, refl, sym, ap, ◌∙◌, codes}
+use Rattle.std.proofs.Common.{◌≡◌, ℕ, true, false, List, [], ◌∷◌, ◌++◌, map, refl, sym, ap, ◌∙◌, codes}
 use Rattle.std.specs.Prelude.{not, bytes_eq, if◌then◌else◌}
-use Rattle.std.specs.List.{filter, list_all, list_any, flat_map}
+use Rattle.std.specs.List.{list_all, flat_map}
 use Rattle.std.specs.Str.Lossy.{utf8_lossy}
 use Rattle.sx_http.specs.declared.heads.Head.{Head}
 use Rattle.sx_http.specs.declared.heads.Header.{Header}

@@ -1,5 +1,5 @@
 -- A list of texts in order whose sums are another's is that one sorted.
-use Rattle.std.proofs.Common.{◌≡◌, ℕ, zero, suc, ◌+◌, ◌<◌, ◌≤◌, Bool, true, false, cond, List, [], ◌∷◌, length, map, get_or, subst, if◌then◌else◌, refl, sym, ap, ◌∙◌, arith, suc-le-suc, zero-le}
+use Rattle.std.proofs.Common.{◌≡◌, ℕ, suc, ◌+◌, ◌<◌, Bool, true, false, cond, List, [], ◌∷◌, length, map, get_or, subst, if◌then◌else◌, refl, sym, ap, ◌∙◌, arith, suc-le-suc, zero-le}
 use Rattle.std.specs.Prelude.{⊤}
 use Rattle.std.specs.Ordering.{nat_cmp, is_gt, is_lt, ordering_reverse}
 use Rattle.std.specs.Cmp.Lexicographic.{slice_cmp}

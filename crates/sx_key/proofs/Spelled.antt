@@ -1,5 +1,5 @@
 -- The Authorization value that is given reads back.
-use Rattle.std.proofs.Common.{◌≡◌, ℕ, zero, suc, ◌+◌, ◌<◌, Bool, true, false, List, [], ◌∷◌, ◌++◌, length, take, drop, Option, Some, None, refl, sym, ap, ◌∙◌, arith, codes, length-append, append_assoc, w32}
+use Rattle.std.proofs.Common.{◌≡◌, ℕ, zero, suc, ◌+◌, true, false, List, [], ◌∷◌, ◌++◌, length, take, drop, Some, refl, sym, ap, ◌∙◌, arith, codes, length-append, append_assoc, w32}
 use Rattle.std.specs.Prelude.{◌==◌, nat_le, ◌&&◌, slice_index}
 use Rattle.std.specs.Int.{to_be_bytes}
 use Rattle.std.specs.List.{list_all, position_or_len, before_first, after_first}
@@ -12,9 +12,8 @@ use Rattle.base64.specs.Engines.{standard}
 use Rattle.base64.proofs.EngineFacts.{decode_of-encode_of}
 use Rattle.base64.proofs.Streams.{decoded_of-ok}
 use Rattle.sx_names.specs.Names.{is_lower_or_digit}
-use Rattle.sx_key.specs.declared.sent.Sent.{Sent}
 use Rattle.sx_key.specs.Accounts.{is_account_name}
-use Rattle.sx_key.specs.Auth.{is_colon, sent_by, sent_in, sent_of}
+use Rattle.sx_key.specs.Auth.{is_colon, sent_of}
 use Rattle.sx_key.specs.Hmac.{hmac}
 use Rattle.sx_key.proofs.Lists.{and_parts}
 

@@ -1,11 +1,11 @@
 -- When a date is timely.
-use Rattle.std.proofs.Common.{◌≡◌, ℕ, ◌+◌, ◌-◌, ◌≤◌, Bool, true, false, Ok, Err, refl, arith}
-use Rattle.std.specs.Prelude.{nat_lt, ◌↔◌, if◌then◌else◌}
+use Rattle.std.proofs.Common.{◌≡◌, ℕ, ◌-◌, ◌≤◌, Bool, true, false, Ok, Err, refl, arith}
+use Rattle.std.specs.Prelude.{nat_lt, if◌then◌else◌}
 use Rattle.std.proofs.lemmas.Bool.Decides.{nat_tests}
 use Rattle.sx_key.specs.declared.fault.AuthFault.{AuthFault}
 use Rattle.sx_key.specs.declared.fault.AuthFault.TheVariants.{TooOld, TooNew}
 use Rattle.sx_key.specs.Answers.{Checked}
-use Rattle.sx_key.specs.Auth.{is_timely, window}
+use Rattle.sx_key.specs.Auth.{window}
 use Rattle.sx_key.specs.Law.{TimelyWithin}
 
 neither : (a b : Bool) (e f : AuthFault) → ◌≡◌ {A = Checked (Unit {0})} (if a then Err e else if b then Err f else Ok tt) (Ok tt) → (a ≡ false) × (b ≡ false)

@@ -1,5 +1,5 @@
 -- What calls answer of accounts and of signed requests.
-use Rattle.std.specs.Prelude.{ℕ, ◌≡◌, Bool, true, false, List, Option, Some, None, Result, Ok, Err, ⊤, if◌then◌else◌}
+use Rattle.std.specs.Prelude.{ℕ, ◌≡◌, List, Option, Some, None, Result, Ok, Err, ⊤, if◌then◌else◌}
 use Rattle.sx_key.specs.declared.account.Account.{Account}
 use Rattle.sx_key.specs.declared.account.AccountFault.{AccountFault}
 use Rattle.sx_key.specs.declared.account.AccountFault.TheVariants.{BadName, BadKey, NoMemory as WantsMemory}

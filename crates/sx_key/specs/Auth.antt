@@ -8,7 +8,6 @@ use Rattle.sx_http.specs.declared.heads.Head.{Head}
 use Rattle.sx_http.specs.declared.heads.Header.{Header}
 use Rattle.sx_key.specs.declared.account.Account.{Account}
 use Rattle.sx_key.specs.declared.sent.Sent.{Sent}
-use Rattle.sx_key.specs.declared.fault.AuthFault.{AuthFault}
 use Rattle.sx_key.specs.declared.fault.AuthFault.TheVariants.{NoHeader, BadHeader, OtherAccount, NoDate, BadDate, TooOld, TooNew, Differs}
 use Rattle.sx_key.specs.Accounts.{is_account_name}
 use Rattle.sx_key.specs.Answers.{Checked, with_next}

@@ -1,6 +1,6 @@
 -- The text that a request signs, and its signature ("Authorize with Shared Key" of Azure Storage).
 -- A head's names are in lower case.
-use Rattle.std.specs.Prelude.{ℕ, ◌==◌, ◌||◌, Bool, not, nat_lt, List, [], ◌∷◌, ◌++◌, length, map, bytes_eq, codes, if◌then◌else◌, nat_eq}
+use Rattle.std.specs.Prelude.{ℕ, ◌==◌, ◌||◌, Bool, nat_lt, List, [], ◌∷◌, ◌++◌, length, map, bytes_eq, codes, if◌then◌else◌, nat_eq}
 use Rattle.std.specs.List.{filter, flat_map, join_with_byte, slice_split, before_first, after_first, starts_with, list_any}
 use Rattle.std.specs.Char.{to_ascii_lowercase}
 use Rattle.std.specs.Str.Lossy.{utf8_lossy}
