@@ -5,7 +5,7 @@ use sx_names::Text;
 /// A header of a request: its name in lower case, and its value without the white space around it.
 ///
 /// A value may have bytes past ASCII that aren't UTF-8 (RFC 9110, section 5.5).
-#[derive(Debug, Drop)]
+#[derive(Debug, Drop, PartialEq)]
 pub struct Header {
     pub name: Text,
     pub value: Items<u8>,
@@ -15,7 +15,7 @@ pub struct Header {
 /// in their order (RFC 9112, sections 2 to 5).
 ///
 /// Contracts see the method and the target as their bytes. That names are in lower case is said where a head is read.
-#[derive(Debug, Drop)]
+#[derive(Debug, Drop, PartialEq)]
 pub struct Head {
     pub method: Method,
     pub target: Text,
@@ -24,7 +24,7 @@ pub struct Head {
 }
 
 /// A head, and as many body bytes as its Content-Length states, or none.
-#[derive(Debug, Drop)]
+#[derive(Debug, Drop, PartialEq)]
 pub struct Request {
     pub head: Head,
     pub body: Items<u8>,

@@ -1,13 +1,12 @@
-ghost use Rattle.std.specs.Prelude.{◌≡◌, true, false, IfOk, IsErrOf, ◌↔◌, bytes_eq};
+ghost use Rattle.std.specs.Prelude.{◌≡◌, true, if◌then◌else◌, IfOk, Some, None, bytes_eq};
 ghost use Rattle.std.specs.Str.{is_utf8};
 
-use crate::unnamed::Unnamed;
 use std::alloc::Global;
 use std::marker::Model;
 use sx_base::{Items, NoMemory};
 
 /// Bytes that are UTF-8.
-#[derive(Debug, Drop)]
+#[derive(Debug, Drop, PartialEq)]
 pub struct Text {
     bytes: Items<u8>,
 }
@@ -21,20 +20,19 @@ impl Model for Text {
     ghost view = { λ t. t.bytes };
 
     ghost invariant = { λ t. is_utf8 t.bytes ≡ true };
+
+    ghost inverse = { λ bs. record { bytes = bs } };
 }
 
 impl Text {
-    /// Reads exactly the bytes that are UTF-8.
-    pub fn read(alloc: Global, bytes: &[u8]) -> Result<Text, Unnamed>
-        ensures name { IfOk result (λ t. (t ≡ bytes.now) × (is_utf8 bytes.now ≡ true)) }
-        ensures fault { IsErrOf result Unnamed.Fault ↔ (is_utf8 bytes.now ≡ false) }
+    /// The text of these bytes, where they are UTF-8. It takes no memory.
+    pub fn of(bytes: Items<u8>) -> Option<Text>
+        ensures { result ≡ (if is_utf8 bytes then Some bytes else None) }
     {
-        if !is_utf8(bytes) {
-            return Err(Unnamed::Fault);
+        if !is_utf8(bytes.as_slice()) {
+            return None;
         }
-        Ok(Text {
-            bytes: Items::copy_of(alloc, bytes)?,
-        })
+        Some(Text { bytes })
     }
 
     /// An equal text of its own.
@@ -49,7 +47,7 @@ impl Text {
     /// The text's bytes.
     pub fn bytes(&self) -> &[u8]
         ensures value { result.now ≡ self.now }
-        ensures text { is_utf8 self.now ≡ true }
+        ensures utf8 { is_utf8 self.now ≡ true }
     {
         self.bytes.as_slice()
     }

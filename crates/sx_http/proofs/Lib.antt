@@ -1,0 +1,6 @@
+pub mod Answering
+pub mod Digits
+pub mod HeadLemmas
+pub mod HeadTexts
+pub mod Reasons
+pub mod RoomLemmas
