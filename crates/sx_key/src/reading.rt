@@ -56,7 +56,8 @@ fn name_text(alloc: Global, name: &[u8]) -> Result<Text, NoMemory>
     requires { is_account_name name.now ≡ true }
     ensures { IfOk result (λ t. t ≡ name.now) }
 {
-    text_of(alloc, name)
+    let name = Vec::from_slice(alloc, name)?;
+    Ok(text_of(name))
 }
 
 fn read_key(alloc: Global, text: &[u8]) -> Result<Option<Items<u8>>, NoMemory>

@@ -32,7 +32,7 @@ pub fn sign(alloc: Global, head: &Head, account: &Account) -> Result<Text, NoMem
     ensures { IfOk result (λ t. t ≡ authorization head.now account.now) }
 {
     let value = authorization(alloc, head, account)?;
-    text_of(alloc, &value)
+    Ok(text_of(value))
 }
 
 fn authorization(alloc: Global, head: &Head, account: &Account) -> Result<Vec<u8>, NoMemory>
@@ -59,7 +59,8 @@ fn lossy(alloc: Global, bytes: &[u8]) -> Result<Text, NoMemory>
     ensures { IfOk result (λ t. t ≡ utf8_lossy bytes.now) }
 {
     let text = String::from_utf8_lossy(alloc, bytes)?;
-    text_of(alloc, text.as_str().as_bytes())
+    let bytes = Vec::from_slice(alloc, text.as_str().as_bytes())?;
+    Ok(text_of(bytes))
 }
 
 fn signed_bytes(alloc: Global, head: &Head, account: &[u8]) -> Result<Vec<u8>, NoMemory>

@@ -8,9 +8,12 @@ use sx_http::{Head, Header, Method};
 use sx_names::Text;
 
 fn text(rt: &impl Abort, alloc: Global, bytes: &[u8]) -> Text {
-    match Text::read(alloc, bytes) {
-        Ok(text) => text,
-        Err(_) => panic!(rt; "{bytes:?} is no text"),
+    let Ok(items) = Items::copy_of(alloc, bytes) else {
+        panic!(rt; "no memory");
+    };
+    match Text::of(items) {
+        Some(text) => text,
+        None => panic!(rt; "{bytes:?} is no text"),
     }
 }
 

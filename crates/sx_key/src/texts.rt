@@ -7,9 +7,9 @@ ghost use Rattle.sx_key.specs.Named.{values, joined};
 ghost use Rattle.sx_key.specs.Signature.{has_header, header_text};
 
 use std::alloc::{AllocError, Global};
-use sx_base::NoMemory;
+use sx_base::{Items, NoMemory};
 use sx_http::Header;
-use sx_names::{Text, Unnamed};
+use sx_names::Text;
 
 /// Adds texts in a row, with a byte between each two.
 pub(crate) fn put_joined(out: &mut Vec<u8>, between: u8, texts: &[&[u8]]) -> Result<(), NoMemory>
@@ -113,14 +113,13 @@ pub(crate) fn after(text: &[u8], byte: u8) -> &[u8]
     }
 }
 
-/// A text of bytes that are UTF-8.
-pub(crate) fn text_of(alloc: Global, bytes: &[u8]) -> Result<Text, NoMemory>
-    requires { is_utf8 bytes.now ≡ true }
-    ensures { IfOk result (λ t. t ≡ bytes.now) }
+/// The text of bytes that are UTF-8. It takes no memory.
+pub(crate) fn text_of(bytes: Vec<u8>) -> Text
+    requires { is_utf8 bytes.items ≡ true }
+    ensures { result ≡ bytes.items }
 {
-    match Text::read(alloc, bytes) {
-        Ok(text) => Ok(text),
-        Err(Unnamed::NoMemory) => Err(NoMemory),
-        Err(Unnamed::Fault) => unreachable!(),
+    match Text::of(Items::of(bytes)) {
+        Some(text) => text,
+        None => unreachable!(),
     }
 }
