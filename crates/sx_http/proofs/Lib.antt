@@ -1,4 +1,5 @@
 pub mod Answering
+pub mod Determined
 pub mod Digits
 pub mod HeadLemmas
 pub mod HeadTexts

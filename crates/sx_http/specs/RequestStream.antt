@@ -1,5 +1,5 @@
 -- Requests on a stream, and what a reader of requests answers.
-use Rattle.std.specs.Prelude.{ℕ, ◌+◌, ◌-◌, ◌<◌, ◌≤◌, ◌≡◌, ◌⊎◌, true, List, [], length, take, IfSome}
+use Rattle.std.specs.Prelude.{ℕ, ◌++◌, ◌+◌, ◌-◌, ◌<◌, ◌≤◌, ◌≡◌, ◌⊎◌, true, List, [], length, take, IfSome}
 use Rattle.std.specs.declared.option.Option.{Option}
 use Rattle.std.specs.Io.KnownBytes.{Keeps, Consumes, prepend_known}
 use Rattle.httparse.specs.Grammar.{RequestHead, print_request, ReadsRequest, NeverHasRequest}
@@ -23,6 +23,10 @@ pub record IsRequest (bytes : List ℕ) (request : Request) : Type 0 where
   pub short : length (print_request tree) ≤ head_limit
   pub head : request.head ≡ head_of tree
   pub framed : framing_of request.head ≡ Body (length request.body)
+
+-- bytes begin with at most one request
+abbrev pub RequestsAreDetermined : Type 0
+RequestsAreDetermined = (a b : Request) (text other rest more : List ℕ) → IsRequest text a → IsRequest other b → text ++ rest ≡ other ++ more → (text ≡ other) × (a ≡ b)
 
 -- a whole head stands at the front, and its headers say that of the body
 pub record BeginsFramed (bytes : List ℕ) (framed : Framing) (facts : HeadFacts) : Type 0 where

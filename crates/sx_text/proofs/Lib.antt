@@ -1,7 +1,9 @@
 pub mod Shared
 pub mod Laws
 pub mod Literals
+pub mod Loops
 pub mod Values
 pub mod Machines
 pub mod Numbers
 pub mod FixedDigits
+pub mod EscapedTexts

@@ -3,5 +3,7 @@ pub mod Readers
 pub mod Machines
 pub mod Numbers
 pub mod Digits
+pub mod Escapes
 pub mod Given
+pub mod Letters
 pub mod Steps

@@ -75,3 +75,59 @@ fn takes_literals(rt: HostRuntime) -> Result<(), Fail> {
     }
     Ok(())
 }
+
+/// Texts with escapes: the bytes for which they stand, and how many bytes are left behind the `<`.
+#[test]
+fn reads_escaped_texts(rt: HostRuntime) -> Result<(), Fail> {
+    let read: [(&[u8], &[u8], usize); 6] = [
+        (b"<", b"", 0),
+        (b"a.txt</Name>", b"a.txt", 6),
+        (b"a&amp;b&lt;&gt;<", b"a&b<>", 0),
+        (b"caf\xc3\xa9<", b"caf\xc3\xa9", 0),
+        (
+            b"\xe2\x82\xac\xf0\x9f\x98\x80<<",
+            b"\xe2\x82\xac\xf0\x9f\x98\x80",
+            1,
+        ),
+        (
+            b"\xed\x9f\xbf\xf4\x8f\xbf\xbf<",
+            b"\xed\x9f\xbf\xf4\x8f\xbf\xbf",
+            0,
+        ),
+    ];
+    for (text, bytes, left) in read.iter() {
+        let (kept, rest) = escaped_text(rt.alloc(), *text).unwrap_or((
+            Vec::new(rt.alloc()),
+            b"unread",
+        ));
+        assert_eq!(rt; kept.as_slice(), *bytes);
+        assert_eq!(rt; rest.len(), *left);
+    }
+    Ok(())
+}
+
+/// How many bytes are left where a text stops.
+#[test]
+fn stops_in_escaped_texts(rt: HostRuntime) -> Result<(), Fail> {
+    let unread: [(&[u8], usize); 12] = [
+        (b"", 0),
+        (b"ab", 0),
+        (b"a>b<", 3),
+        (b"&am<", 1),
+        (b"&#38;<", 5),
+        (b"\xc3(<", 2),
+        (b"\xc1\xbf<", 3),
+        (b"\xe0\x9f\xbf<", 3),
+        (b"\xed\xa0\x80<", 3),
+        (b"\xf0\x8f\xbf<", 3),
+        (b"\xf4\x90\x80<", 3),
+        (b"\xff<", 2),
+    ];
+    for (text, left) in unread.iter() {
+        match escaped_text(rt.alloc(), *text) {
+            Ok(_) => assert!(rt; false),
+            Err(fault) => assert_eq!(rt; fault, Fault::Unread { left: *left }),
+        }
+    }
+    Ok(())
+}

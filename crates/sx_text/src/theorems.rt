@@ -4,6 +4,7 @@ ghost use Rattle.sx_text.specs.Texts.{Reader, IsReading, IsWholeReading};
 ghost use Rattle.sx_text.specs.Readers.{after, pair_at, closed_at, made_at, all_values_at, values_text, IsNoStart, whole_of};
 ghost use Rattle.sx_text.specs.Machines.{Step, run_from, Leads, IsLive};
 ghost use Rattle.sx_text.specs.Numbers.{IsFrom, is_digit, number_text, number_at, number_after};
+ghost use Rattle.sx_text.specs.Escapes.{IsWhole, escaped_text, escaped_at, escaped_after};
 ghost use Rattle.sx_text.specs.Digits.{digits_text, digits_at, digits_after};
 
 /// A form of text over items of type `E`: the text of each value, and the values that have one.
@@ -84,4 +85,11 @@ pub fn digits_are_read()
         → IsReading (digits_text (suc more)) (IsFrom low high) (digits_at more low high) }
     ensures behind { (literal : List ℕ) (more low high : ℕ) → low ≤ high → high < 10 ^ suc more
         → IsReading (λ n. literal ++ digits_text (suc more) n) (IsFrom low high) (digits_after literal more low high) }
+{}
+
+/// The law of escaped texts: texts of UTF-8 in which `&`, `<` and `>` are escaped are read exactly, with the `<` behind them. It
+/// does nothing.
+pub fn escaped_texts_are_read()
+    ensures alone { IsReading escaped_text IsWhole escaped_at }
+    ensures behind { (literal : List ℕ) → IsReading (λ bytes. literal ++ escaped_text bytes) IsWhole (escaped_after literal) }
 {}

@@ -1,0 +1,246 @@
+ghost use Rattle.std.specs.Prelude.{◌≡◌, ℕ, List, IfOk};
+ghost use Rattle.sx_text.specs.Given.{Gives};
+ghost use Rattle.sx_text.specs.Escapes.{lead_of, behind, escaped_step, escaped_at, escaped_after, IsWhole};
+ghost use Rattle.sx_text.specs.declared.escaped_reader.Spot.TheVariants.{Between, Tail, Ampersand};
+ghost use Rattle.sx_text.specs.Letters.{shown_letter};
+
+use crate::fault::Fault;
+use crate::literal_reader::literal;
+use std::alloc::Global;
+
+/// Where in a text a reader stands.
+#[derive(Clone, Copy, Debug, PartialEq, Eq)]
+pub enum Spot {
+    /// Between two characters.
+    Between,
+    /// In a character: the next byte lies in a range, and `more` bytes follow it.
+    Tail { low: u8, high: u8, more: u8 },
+    /// Behind `&`.
+    Ampersand,
+    /// Behind `&a`, and `&am`.
+    WantsM,
+    WantsP,
+    /// Before `t;`, and before `;`, of an escape of `code`.
+    Tee { code: u8 },
+    Semi { code: u8 },
+}
+
+/// What a byte does in a text: it ends it, is kept (or a byte that it stands for), is passed over, or can't stand there.
+#[derive(Clone, Copy, Debug, PartialEq, Eq)]
+pub enum Letter {
+    Done,
+    Kept { byte: u8, spot: Spot },
+    Passed { spot: Spot },
+    Wrong,
+}
+
+#[tactic(auto, unfolding(crate::specs::Escapes::lead_of))]
+fn lead(byte: u8) -> Option<Spot>
+    ensures { result ≡ lead_of byte }
+{
+    if byte < 194 {
+        None
+    } else if byte < 224 {
+        Some(Spot::Tail {
+            low: 128,
+            high: 191,
+            more: 0,
+        })
+    } else if byte == 224 {
+        Some(Spot::Tail {
+            low: 160,
+            high: 191,
+            more: 1,
+        })
+    } else if byte == 237 {
+        Some(Spot::Tail {
+            low: 128,
+            high: 159,
+            more: 1,
+        })
+    } else if byte < 240 {
+        Some(Spot::Tail {
+            low: 128,
+            high: 191,
+            more: 1,
+        })
+    } else if byte == 240 {
+        Some(Spot::Tail {
+            low: 144,
+            high: 191,
+            more: 2,
+        })
+    } else if byte < 244 {
+        Some(Spot::Tail {
+            low: 128,
+            high: 191,
+            more: 2,
+        })
+    } else if byte == 244 {
+        Some(Spot::Tail {
+            low: 128,
+            high: 143,
+            more: 2,
+        })
+    } else {
+        None
+    }
+}
+
+fn behind(more: u8) -> Spot
+    ensures { result ≡ behind more }
+{
+    if more == 0 {
+        Spot::Between
+    } else {
+        Spot::Tail {
+            low: 128,
+            high: 191,
+            more: more - 1,
+        }
+    }
+}
+
+fn between(byte: u8) -> Letter
+    ensures { (kept : List ℕ) → shown_letter kept result ≡ escaped_step (kept, Between) byte }
+{
+    if byte == b'<' {
+        return Letter::Done;
+    }
+    if byte == b'>' {
+        return Letter::Wrong;
+    }
+    if byte == b'&' {
+        return Letter::Passed {
+            spot: Spot::Ampersand,
+        };
+    }
+    if byte < 128 {
+        return Letter::Kept {
+            byte,
+            spot: Spot::Between,
+        };
+    }
+    match lead(byte) {
+        None => Letter::Wrong,
+        Some(spot) => Letter::Kept { byte, spot },
+    }
+}
+
+fn ampersand(byte: u8) -> Letter
+    ensures { (kept : List ℕ) → shown_letter kept result ≡ escaped_step (kept, Ampersand) byte }
+{
+    if byte == b'a' {
+        return Letter::Passed { spot: Spot::WantsM };
+    }
+    if byte == b'l' {
+        return Letter::Passed {
+            spot: Spot::Tee { code: 60 },
+        };
+    }
+    if byte == b'g' {
+        return Letter::Passed {
+            spot: Spot::Tee { code: 62 },
+        };
+    }
+    Letter::Wrong
+}
+
+fn tail(low: u8, high: u8, more: u8, byte: u8) -> Letter
+    ensures { (kept : List ℕ) → shown_letter kept result ≡ escaped_step (kept, Tail low high more) byte }
+{
+    if low <= byte && byte <= high {
+        return Letter::Kept {
+            byte,
+            spot: behind(more),
+        };
+    }
+    Letter::Wrong
+}
+
+fn letter_of(spot: Spot, byte: u8) -> Letter
+    ensures { (kept : List ℕ) → shown_letter kept result ≡ escaped_step (kept, spot) byte }
+{
+    match spot {
+        Spot::Between => between(byte),
+        Spot::Tail { low, high, more } => tail(low, high, more, byte),
+        Spot::Ampersand => ampersand(byte),
+        Spot::WantsM => if byte == b'm' {
+            Letter::Passed { spot: Spot::WantsP }
+        } else {
+            Letter::Wrong
+        },
+        Spot::WantsP => if byte == b'p' {
+            Letter::Passed {
+                spot: Spot::Semi { code: 38 },
+            }
+        } else {
+            Letter::Wrong
+        },
+        Spot::Tee { code } => if byte == b't' {
+            Letter::Passed {
+                spot: Spot::Semi { code },
+            }
+        } else {
+            Letter::Wrong
+        },
+        Spot::Semi { code } => if byte == b';' {
+            Letter::Kept {
+                byte: code,
+                spot: Spot::Between,
+            }
+        } else {
+            Letter::Wrong
+        },
+    }
+}
+
+#[tactic(auto, unfolding(crate::specs::Escapes::escaped_at))]
+fn letters(alloc: Global, bytes: &[u8]) -> Result<(Vec<u8>, &[u8]), Fault>
+    ensures { Gives (λ x. (x.0.items, x.1.now)) result (escaped_at bytes.now) }
+{
+    let mut kept = Vec::new(alloc);
+    let mut rest = bytes;
+    let mut spot = Spot::Between;
+    for byte in bytes {
+        rest = &rest[1..];
+        match letter_of(spot, *byte) {
+            Letter::Done => return Ok((kept, rest)),
+            Letter::Kept {
+                byte: known,
+                spot: next,
+            } => {
+                kept.push(known)?;
+                spot = next;
+            }
+            Letter::Passed { spot: next } => spot = next,
+            Letter::Wrong => return Err(Fault::Unread {
+                left: rest.len() + 1,
+            }),
+        }
+    }
+    Err(Fault::Unread { left: 0 })
+}
+
+/// Takes a text of UTF-8 in which `&`, `<` and `>` are escaped as `&amp;`, `&lt;` and `&gt;`, and the `<` behind it, and gives
+/// the bytes for which it stands and the bytes behind that `<`.
+pub fn escaped_text(alloc: Global, bytes: &[u8]) -> Result<(Vec<u8>, &[u8]), Fault>
+    ensures reading { Gives (λ x. (x.0.items, x.1.now)) result (escaped_at bytes.now) }
+    ensures whole { IfOk result (λ x. IsWhole x.0.items) }
+{
+    letters(alloc, bytes)
+}
+
+/// Takes `literal`, and the text behind it as `escaped_text` does.
+#[tactic(auto, unfolding(crate::specs::Escapes::escaped_after))]
+pub fn escaped_text_behind<'a>(
+    alloc: Global,
+    bytes: &'a [u8],
+    text: &[u8],
+) -> Result<(Vec<u8>, &'a [u8]), Fault>
+    ensures reading { Gives (λ x. (x.0.items, x.1.now)) result (escaped_after text.now bytes.now) }
+    ensures whole { IfOk result (λ x. IsWhole x.0.items) }
+{
+    let rest = literal(bytes, text)?;
+    escaped_text(alloc, rest)
+}
