@@ -40,10 +40,10 @@ pub served_own : {C : Type 0} (ticks : C → ℕ → C → Type 0) (share : List
     (left left' : Option (List ℕ)) (reads reads' writes writes' : ℕ) (main pass talked met : PassView) (report : ConnReport) (status : ℕ)
     → ticks c0 moment c1 → HasOpened office share moment main pass
     → Conversation pass.number pass.limit loopback input_budget share ticks wrote wrote' (record { left = left; reads = reads; writes = writes; seen = pass.seen; mine = pass.mine; clock = c1 })
-        (record { left = left'; reads = reads'; writes = writes'; seen = talked.seen; mine = talked.mine; clock = c2 }) report
+    (record { left = left'; reads = reads'; writes = writes'; seen = talked.seen; mine = talked.mine; clock = c2 }) report
     → talked ≡ record pass { seen = talked.seen; mine = talked.mine } → met ≡ after_meet main talked → OwnsEachSeen met × HasExactPlaces met → status ≡ status_of report
     → Served ticks share wrote wrote' (record { left = left; reads = reads; writes = writes; seen = []; mine = []; clock = c0 })
-        (record { left = left'; reads = reads'; writes = writes'; seen = []; mine = []; clock = c2 }) status
+    (record { left = left'; reads = reads'; writes = writes'; seen = []; mine = []; clock = c2 }) status
 served_own {C} ticks share wrote wrote' office moment c0 c1 c2 left left' reads reads' writes writes' main pass talked met report status made o talk kept met_is closed told =
     let first : Side C = record { left = left; reads = reads; writes = writes; seen = pass.seen; mine = []; clock = c1 } in
     let last : Side C = record { left = left'; reads = reads'; writes = writes'; seen = talked.seen; mine = talked.mine; clock = c2 } in

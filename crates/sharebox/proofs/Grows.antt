@@ -46,9 +46,10 @@ turns_grow : (w : Speaker) (seen : List Noted) (ts : List Turn) → MayTurns w s
 turns_grow w seen [] may = (prefix_self seen, tt)
 turns_grow w seen (t ∷ ts) may =
     let first = turn_grows w seen t.line t.outcome may.2 in
-    let then = turns_grow w (seen_after w seen t.outcome) ts may.3 in
-    (prefix_over seen (seen_after w seen t.outcome) _ first.0 then.0,
-    each_append _ (places_of t.outcome) (places_taken ts) first.1 (behind_more _ _ (places_taken ts) (prefix_length seen (seen_after w seen t.outcome) first.0) then.1))
+    let then = turns_grow w (seen_after w seen t.outcome) ts may.3 in (
+      prefix_over seen (seen_after w seen t.outcome) _ first.0 then.0,
+      each_append _ (places_of t.outcome) (places_taken ts) first.1 (behind_more _ _ (places_taken ts) (prefix_length seen (seen_after w seen t.outcome) first.0) then.1),
+    )
 
 -- a session that was started
 session_grows : {C : Type 0} (who limit peer budget : ℕ) (share : List ℕ) (ticks : C → ℕ → C → Type 0) (wrote wrote' : List ℕ → Type 0) (old new : Side C) (report : ConnReport)

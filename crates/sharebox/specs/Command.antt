@@ -92,7 +92,7 @@ pub record IsOwnHistory (share : List ℕ) (moment : ℕ) (first whole : List No
   pub own : Each (λ n. n.entry.who ≡ session_caller) rest
 
 -- the share was made at a moment, and the session was served behind what was seen then; the office was closed, and its history is
--- the program's own, or it could not be closed
+-- the program's own, or it could not be closed, which counts as want of memory
 pub record Served {C : Type 0} (ticks : C → ℕ → C → Type 0) (share : List ℕ) (wrote wrote' : List ℕ → Type 0) (old new : Side C) (status : ℕ) : Type 0 where
   pub moment : ℕ
   pub began : C
@@ -103,7 +103,7 @@ pub record Served {C : Type 0} (ticks : C → ℕ → C → Type 0) (share : Lis
   pub report : ConnReport
   pub conversation : Conversation session_caller history_limit loopback input_budget share ticks wrote wrote'
       (record old { seen = first; mine = []; clock = began }) (record new { seen = seen; mine = mine }) report
-  pub closed : (IsOwnHistory share moment first seen × (status ≡ status_of report)) ⊎ (status ≡ 5)
+  pub closed : (IsOwnHistory share moment first seen × (status ≡ status_of report)) ⊎ (status ≡ status_of (record report { starved = true }))
 
 -- what a session on a share does, with the share made before it
 abbrev pub IsDone : {C : Type 0} → (C → ℕ → C → Type 0) → List ℕ → (List ℕ → Type 0) → (List ℕ → Type 0) → Side C → Side C → ℕ → Type 0

@@ -197,7 +197,10 @@ fn session<R: Wait, S: Source, K: Sink, C: Clock>(
             if close(rt, office, main) {
                 of_report(&report)
             } else {
-                NO_MEMORY
+                of_report(&ConnReport {
+                    starved: true,
+                    ..report
+                })
             }
         }
         Err(NoMemory) => {

@@ -146,7 +146,14 @@ fn commands_answer(rt: HostRuntime) -> Result<(), Fail> {
         let mut input = MemSource::new(bytes, 5, Vec::from_slice(alloc, &[row.read])?);
         let mut out = MemSink::new(alloc, Vec::from_slice(alloc, &[row.put])?);
         let mut clock = StepClock { at: 5, step: 1 };
-        let status = run(alloc, words.as_slice(), &mut input, &mut out, &mut clock);
+        let status = run(
+            alloc,
+            &rt,
+            words.as_slice(),
+            &mut input,
+            &mut out,
+            &mut clock,
+        );
         assert_eq!(rt; status, row.status, "at {number}");
         assert!(rt; out.bytes() == row.out, "at {number}");
     }

@@ -61,7 +61,7 @@ pub served_by : {C : Type 0} (session : ℕ) (share : List ℕ) (budget : ℕ) (
     → (going : Going session share ticks s0 s1 p p' c c' tally k) → s0 ≡ left → k2 ≡ k → k2 ≤ budget → Keeps s1 (prepend_known held left')
     → HasWritten end (speaker p session share) going.turns s1 wrote wrote' → IsEnd end s1 held k2 budget reads reads' writes writes'
     → Served (speaker p session share) budget ticks wrote wrote' (record { left = left; reads = reads; writes = writes; seen = p.seen; mine = p.mine; clock = c })
-        (record { left = left'; reads = reads'; writes = writes'; seen = p'.seen; mine = p'.mine; clock = c' }) tally end k2
+    (record { left = left'; reads = reads'; writes = writes'; seen = p'.seen; mine = p'.mine; clock = c' }) tally end k2
 served_by {C} session share budget ticks wrote wrote' left left' reads reads' writes writes' p p' c c' tally end s0 s1 held k k2 going same count within unread written ended = record {
   turns = going.turns;
   may = going.may;

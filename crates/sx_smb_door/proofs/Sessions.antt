@@ -26,10 +26,10 @@ pub session_by : {C : Type 0} (ticks : C → ℕ → C → Type 0) (wrote wrote'
     (left left' : Option (List ℕ)) (reads reads' writes writes' : ℕ) (r1 r2 : Receipt) (session : ℕ) (tally : Tally) (end : ConnEnd) (taken : ℕ) (report : ConnReport)
     → ticks c0 first c1 → TookPlace p0 0 first 0 (Start peer) r1 p1 → r1.reply ≡ Smb (Started session)
     → Served (speaker p1 session share) budget ticks wrote wrote' (record { left = left; reads = reads; writes = writes; seen = p1.seen; mine = p1.mine; clock = c1 })
-        (record { left = left'; reads = reads'; writes = writes'; seen = p2.seen; mine = p2.mine; clock = c2 }) tally end taken
+    (record { left = left'; reads = reads'; writes = writes'; seen = p2.seen; mine = p2.mine; clock = c2 }) tally end taken
     → p2 ≡ record p1 { seen = p2.seen; mine = p2.mine } → ticks c2 last c3 → TookPlace p2 session last 0 End r2 p3 → report ≡ report_of end taken budget tally
     → Conversation p0.number p0.limit peer budget share ticks wrote wrote' (record { left = left; reads = reads; writes = writes; seen = p0.seen; mine = p0.mine; clock = c0 })
-        (record { left = left'; reads = reads'; writes = writes'; seen = p3.seen; mine = p3.mine; clock = c3 }) report
+    (record { left = left'; reads = reads'; writes = writes'; seen = p3.seen; mine = p3.mine; clock = c3 }) report
 session_by {C} ticks wrote wrote' peer budget share p0 p1 p2 p3 first last c0 c1 c2 c3 left left' reads reads' writes writes' r1 r2 session tally end taken report start took said served kept stop ended reported =
     let number : session ≡ next_number took.log = started_number p0 p1 first peer session r1 took said in
     let who : p2.number ≡ p0.number = ap (λ (p : PassView). p.number) kept ∙ ap (λ (p : PassView). p.number) took.pass in

@@ -3,9 +3,10 @@
 use super::*;
 use std::alloc::Global;
 use std::process::Abort;
+use std::sync::Wait;
 use std::test::Fail;
 use sx_base::{MemLink, MemSink, MemSource, StepClock};
-use sx_book::{Book, ConnEnd, ConnReport, Full};
+use sx_book::{Book, ConnEnd, ConnReport, Full, Office};
 use sx_names::ShareName;
 
 /// No call fails.
@@ -233,6 +234,28 @@ fn share(rt: &impl Abort, alloc: Global) -> ShareName {
     }
 }
 
+/// Serves a session through an office of its own, which is closed behind it.
+fn served<R: Abort + Wait>(
+    rt: &R,
+    alloc: Global,
+    limit: u32,
+    share: &ShareName,
+    link: &mut MemLink,
+    budget: u64,
+) -> (ConnReport, Book) {
+    let Ok((office, mut pass)) = Office::begin(alloc, limit) else {
+        panic!(rt; "no memory");
+    };
+    let mut clock = StepClock { at: 5, step: 1 };
+    let report = serve_session(
+        alloc, rt, &office, &mut pass, share, link, &mut clock, budget,
+    );
+    match office.close(rt, pass) {
+        Ok(book) => (report, book),
+        Err(fault) => panic!(rt; "{} out", Office::abandon(fault)),
+    }
+}
+
 #[test]
 fn sessions_end(rt: HostRuntime) -> Result<(), Fail> {
     let alloc = rt.alloc();
@@ -246,11 +269,7 @@ fn sessions_end(rt: HostRuntime) -> Result<(), Fail> {
             sink: MemSink::new(alloc, puts),
             peer: 7,
         };
-        let mut clock = StepClock { at: 5, step: 1 };
-        let mut book = Book::new(alloc, row.limit);
-        let report = serve_session(
-            alloc, &mut book, 1, &share, &mut link, &mut clock, row.budget,
-        );
+        let (report, book) = served(&rt, alloc, row.limit, &share, &mut link, row.budget);
         let wanted = ConnReport {
             end: row.end,
             taken: row.taken,
@@ -278,17 +297,7 @@ fn long_lines_close(rt: HostRuntime) -> Result<(), Fail> {
         sink: MemSink::new(alloc, Vec::new(alloc)),
         peer: 7,
     };
-    let mut clock = StepClock { at: 5, step: 1 };
-    let mut book = Book::new(alloc, 10);
-    let report = serve_session(
-        alloc,
-        &mut book,
-        1,
-        &share,
-        &mut link,
-        &mut clock,
-        1_099_511_627_776,
-    );
+    let (report, book) = served(&rt, alloc, 10, &share, &mut link, 1_099_511_627_776);
     assert_eq!(rt; report.end, ConnEnd::Closed { at: Some(8) });
     assert_eq!(rt; report.taken, 8);
     assert!(rt;
