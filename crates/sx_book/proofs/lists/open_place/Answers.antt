@@ -2,7 +2,6 @@ use Rattle.std.proofs.Common.{◌≡◌, position, None}
 use Rattle.sx_base.proofs.Firsts.{position_or_len-none}
 use Rattle.sx_call.specs.declared.held.Open.{Open}
 use Rattle.sx_guard.specs.Handles.{handle_before}
-
 use Rattle.sx_book.proofs.lists.open_place.Goals as goal
 
 pub returns-in-None-clause-place : goal.returns-in-None-clause-place
