@@ -22,4 +22,6 @@ pub use sx_call::Stop;
 pub use sx_turn::{CloseFault, SeatFault};
 
 #[cfg(test)]
+mod office_tests;
+#[cfg(test)]
 mod tests;
