@@ -1,6 +1,6 @@
 //! The words of the commands.
 
-ghost use Rattle.std.specs.Prelude.{◌≡◌, ℕ, length, map, [], ◌∷◌, IfSome, IfNone};
+ghost use Rattle.std.specs.Prelude.{◌≡◌, ℕ, length, map, [], ◌∷◌, IfSome, IfNone, decimal, true, false};
 ghost use Rattle.std.specs.String.{string_bytes};
 ghost use Rattle.sx_tool.specs.Typed.{IsTicks, Spells};
 
@@ -95,10 +95,18 @@ fn moment_of(word: &str) -> Option<u64>
     if number > GREATEST_MOMENT {
         return None;
     }
-    let mut buffer = Buffer::new();
-    if buffer.format(number) == word {
+    if is_decimal(number, word) {
         Some(number)
     } else {
         None
     }
+}
+
+/// Whether a word is the decimal digits of a number, without a leading zero.
+fn is_decimal(number: u64, word: &str) -> bool
+    ensures yes { result ≡ true → word.now ≡ decimal number }
+    ensures no { result ≡ false → ¬ (word.now ≡ decimal number) }
+{
+    let mut buffer = Buffer::new();
+    buffer.format(number) == word
 }
