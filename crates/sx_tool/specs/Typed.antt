@@ -1,0 +1,43 @@
+-- The words of the tool's commands.
+use Rattle.std.specs.Prelude.{ℕ, ◌≡◌, ◌≤◌, List, [], ◌∷◌, codes, decimal, Ok}
+use Rattle.sx_base.specs.Moments.{greatest_moment}
+use Rattle.sx_key.specs.Answers.{account_of}
+use Rattle.sx_key.specs.declared.account.Account.{Account}
+use Rattle.sx_tool.specs.declared.words.Command.{Command}
+use Rattle.sx_tool.specs.declared.words.Command.TheVariants as command
+
+-- these words are this account's name and its key in base64
+abbrev pub IsAccount : List ℕ → List ℕ → Account → Type 0
+IsAccount name key account = account_of name key ≡ Ok (record { name = account.name; key = account.key })
+
+-- this word is a moment that a clock may tell, in decimal digits without leading zeros
+abbrev pub IsTicks : List ℕ → ℕ → Type 0
+IsTicks word moment = (word ≡ decimal moment) × (moment ≤ greatest_moment)
+
+-- `sign ACCOUNT KEY`
+pub record IsSign (words : List (List ℕ)) (account : Account) : Type 0 where
+  pub name : List ℕ
+  pub key : List ℕ
+  pub are : words ≡ codes "sign" ∷ name ∷ key ∷ []
+  pub is : IsAccount name key account
+
+-- `check ACCOUNT KEY TICKS`
+pub record IsCheck (words : List (List ℕ)) (account : Account) (now : ℕ) : Type 0 where
+  pub name : List ℕ
+  pub key : List ℕ
+  pub ticks : List ℕ
+  pub are : words ≡ codes "check" ∷ name ∷ key ∷ ticks ∷ []
+  pub is : IsAccount name key account
+  pub at : IsTicks ticks now
+
+-- no command
+pub record IsUnknown (words : List (List ℕ)) : Type 0 where
+  pub no_sign : (account : Account) → ¬ (IsSign words account)
+  pub no_check : (account : Account) (now : ℕ) → ¬ (IsCheck words account now)
+
+-- the command that the words are; want of memory is free
+abbrev pub Spells : Command → List (List ℕ) → Type 0
+Spells (command.Sign account) words = IsSign words account
+Spells (command.Check account now) words = IsCheck words account now
+Spells command.Unknown words = IsUnknown words
+Spells command.NoMemory words = Unit {0}

@@ -1,0 +1,32 @@
+//! The one head that an input is.
+
+ghost use Rattle.sx_tool.specs.Inputs.{Finds};
+
+use crate::gathered::{Gathered, gather};
+use std::alloc::Global;
+use sx_base::Source;
+use sx_http::{Head, read_head};
+
+/// The head that an input is, or that it isn't one.
+pub(crate) enum Found {
+    Head(Head),
+    NoHead,
+    ReadFault,
+    NoMemory,
+}
+
+/// Takes an input, and reads the head that it is.
+pub(crate) fn find_head<S: Source>(alloc: Global, input: &mut S) -> Found
+    ensures { Finds result (S.left input.old) (S.left input.new) (S.read_count input.old) (S.read_count input.new) }
+{
+    match gather(alloc, input) {
+        Gathered::ReadFault => Found::ReadFault,
+        Gathered::NoMemory => Found::NoMemory,
+        Gathered::TooLong => Found::NoHead,
+        Gathered::Whole(bytes) => match read_head(alloc, bytes.as_slice()) {
+            Ok(Some(head)) => Found::Head(head),
+            Ok(None) => Found::NoHead,
+            Err(_) => Found::NoMemory,
+        },
+    }
+}
