@@ -17,3 +17,5 @@ pub use tally::Tally;
 mod session_tests;
 #[cfg(test)]
 mod tests;
+#[cfg(test)]
+mod thread_tests;
