@@ -1,4 +1,4 @@
 pub mod Closed
 pub mod Grows
 pub mod Own
-pub mod Spelled
+pub mod SessionWords

@@ -1,25 +1,42 @@
 -- What the program does by its words, and the statuses that it ends with.
-use Rattle.std.specs.Prelude.{ℕ, codes, ◌≡◌, ◌^◌, ◌⊎◌, true, List, [], ◌∷◌, ◌++◌, Bool, false, Option, Some, None}
+use Rattle.std.specs.Prelude.{ℕ, codes, ◌≡◌, ◌≤◌, ◌⊎◌, true, List, [], ◌∷◌, ◌++◌, Bool, false, Option, Some, None}
+use Rattle.std.specs.Prelude.{Result, Ok, Err}
+use Rattle.std.specs.List.{AllByRecursion}
 use Rattle.sx_base.specs.Causes.{Rose}
-use Rattle.sx_call.specs.declared.call.Call.TheVariants.{CreateShare}
-use Rattle.sx_call.specs.declared.call.Entry.{Entry}
-use Rattle.sx_call.specs.declared.call.Noted.{Noted}
+use Rattle.sx_stage_call.specs.declared.call.Call.TheVariants.{CreateShare}
+use Rattle.sx_stage_call.specs.declared.call.Entry.{Entry}
+use Rattle.sx_stage_call.specs.declared.call.Noted.{Noted}
 use Rattle.sx_names.specs.Names.{is_share_name}
-use Rattle.sx_turn.specs.Places.{Each}
 use Rattle.sx_book.specs.Passes.{with_noted}
 use Rattle.sx_book.specs.declared.report.Full.{Full}
 use Rattle.sx_book.specs.declared.report.ConnEnd.{ConnEnd}
 use Rattle.sx_book.specs.declared.report.ConnEnd.TheVariants as finish
 use Rattle.sx_book.specs.declared.report.ConnReport.{ConnReport}
-use Rattle.sx_smb_door.specs.Conversation.{Conversation, HasText, HasPrefix, Side}
+use Rattle.sx_smb_door.specs.Conversation.{Conversation, HasText, HasPrefix, SessionState}
+use Rattle.sx_tool.specs.Tools.{Streams, Signs, Checks}
+use Rattle.sx_tool.specs.Typed.{IsSign, IsCheck, IsUnknown}
+use Rattle.sharebox.specs.declared.command.Command.{Command}
+use Rattle.sharebox.specs.declared.command.Command.TheVariants as command
+use Rattle.sharebox.specs.declared.run.TheConstants.{HISTORY_LIMIT, SHARE_QUOTA, SESSION_CALLER, LOOPBACK, INPUT_BUDGET}
 
 -- the words are `session SHARE`
 abbrev pub IsSession : List (List ℕ) → List ℕ → Type 0
 IsSession words share = (words ≡ codes "session" ∷ share ∷ []) × (is_share_name share ≡ true)
 
+-- the words are `session SHARE` for no share
+abbrev pub IsNoSession : List (List ℕ) → Type 0
+IsNoSession words = (share : List ℕ) → IsSession words share → ⊥
+
+-- the words are this command
+abbrev pub IsCommand : Command → List (List ℕ) → Type 0
+IsCommand (command.Session share) words = IsSession words share
+IsCommand (command.Sign account) words = IsSign words account
+IsCommand (command.Check account now) words = IsCheck words account now
+
 -- the words are no command
-abbrev pub IsUnknown : List (List ℕ) → Type 0
-IsUnknown words = (share : List ℕ) → IsSession words share → ⊥
+pub record IsNoCommand (words : List (List ℕ)) : Type 0 where
+  pub no_session : IsNoSession words
+  pub no_tool : IsUnknown words
 
 -- what is written where the words are no command
 abbrev pub refusal_line : List ℕ
@@ -27,59 +44,90 @@ refusal_line = codes "words refused\n"
 
 -- how many places the program's history has
 abbrev pub history_limit : ℕ
-history_limit = 1000000
+history_limit = HISTORY_LIMIT
 
 -- the GiB of the session's share
 abbrev pub share_quota : ℕ
-share_quota = 5120
+share_quota = SHARE_QUOTA
 
 -- the caller of the session
 abbrev pub session_caller : ℕ
-session_caller = 1
+session_caller = SESSION_CALLER
 
 -- 127.0.0.1
 abbrev pub loopback : ℕ
-loopback = 2130706433
+loopback = LOOPBACK
 
 -- how many bytes of input a session may take
 abbrev pub input_budget : ℕ
-input_budget = 2 ^ 40
+input_budget = INPUT_BUDGET
 
 -- the program's own Create Share
 abbrev pub creation : List ℕ → ℕ → Entry
 creation share moment = record { who = 0; session = 0; at = moment; fresh = 0; call = CreateShare share share_quota }
 
--- the status of a session that its link let go to its end: want of memory comes first, then a full history
-abbrev pub counted : Bool → Option Full → ℕ → ℕ
-counted true full status = 5
-counted false (Some numbers) status = 7
-counted false None status = status
+-- the status of a session whose streams did not fail: out of memory comes first, then a full history
+abbrev pub status_by_counts : Bool → Option Full → ℕ → ℕ
+status_by_counts true full status = 5
+status_by_counts false (Some numbers) status = 7
+status_by_counts false None status = status
 
--- the status by how a session ended, whether a call found no memory, and whether one found the history full
+-- the status by how a session ended, whether memory ran out, and whether the history was full
 abbrev pub status_by : ConnEnd → Bool → Option Full → ℕ
 status_by finish.ReadFault starved full = 3
 status_by finish.WriteFault starved full = 4
 status_by finish.NoMemory starved full = 5
-status_by (finish.Full numbers) starved full = counted starved full 7
-status_by (finish.Cut left) starved full = counted starved full 2
-status_by finish.Spent starved full = counted starved full 2
-status_by (finish.Closed (Some at)) starved full = counted starved full 2
-status_by (finish.Closed None) starved full = counted starved full 0
-status_by finish.Ended starved full = counted starved full 0
+status_by (finish.Full numbers) starved full = status_by_counts starved full 7
+status_by (finish.Cut left) starved full = status_by_counts starved full 2
+status_by finish.Spent starved full = status_by_counts starved full 2
+status_by (finish.Closed (Some at)) starved full = status_by_counts starved full 2
+status_by (finish.Closed None) starved full = status_by_counts starved full 0
+status_by finish.Ended starved full = status_by_counts starved full 0
 
 -- the status of a session's report
 abbrev pub status_of : ConnReport → ℕ
 status_of report = status_by report.end report.starved report.full
 
--- the words are no command: the refusal was written, or a prefix of it where the write failed
-pub record Refused {C : Type 0} (words : List (List ℕ)) (wrote wrote' : List ℕ → Type 0) (old new : Side C) (status : ℕ) : Type 0 where
-  pub unknown : IsUnknown words
+-- the status where the office was closed, or could not be, which counts as out of memory
+abbrev pub status_after_close : {A B : Type 0} → Result A B → ConnReport → ℕ
+status_after_close (Ok book) report = status_of report
+status_after_close (Err fault) report = status_of (record report { starved = true })
+
+-- the program's input, its output and its clock, before or after a run: what the input has left, where it tells it,
+-- and the counts of failed reads and writes
+pub record Outside (K C : Type 0) : Type 0 where
+  pub left : Option (List ℕ)
+  pub reads : ℕ
+  pub out : K
+  pub writes : ℕ
+  pub clock : C
+
+-- the streams of a command over a head
+abbrev pub streams_of : {K C : Type 0} → Outside K C → Streams K
+streams_of o = record { left = o.left; reads = o.reads; out = o.out; writes = o.writes }
+
+-- the state of a session whose pass has seen this list, with these places of its own
+abbrev pub session_state : {K C : Type 0} → Outside K C → List Noted → List ℕ → SessionState C
+session_state o seen mine =
+    record { left = o.left; reads = o.reads; writes = o.writes; seen = seen; mine = mine; clock = o.clock }
+
+-- the words are no command: the refusal was written, or a prefix of it where the write failed; nothing was read
+pub record RefusesWords {K C : Type 0} (wrote : K → List ℕ → Type 0) (words : List (List ℕ)) (old new : Outside K C)
+    (status : ℕ) : Type 0 where
+  pub unknown : IsNoCommand words
   pub status_is : status ≡ 1
-  pub kept : new ≡ record old { writes = new.writes }
-  pub written : HasText wrote wrote' refusal_line ⊎ (HasPrefix wrote wrote' refusal_line × Rose old.writes new.writes)
+  pub kept : new ≡ record old { out = new.out; writes = new.writes }
+  pub written : HasText (wrote old.out) (wrote new.out) refusal_line
+      ⊎ (HasPrefix (wrote old.out) (wrote new.out) refusal_line × Rose old.writes new.writes)
+
+-- no memory was left to read the words: nothing was read or written
+pub record LacksMemory {K C : Type 0} (old new : Outside K C) (status : ℕ) : Type 0 where
+  pub status_is : status ≡ 5
+  pub same : new ≡ old
 
 -- no memory was left before the session, or the office gave no pass for it: nothing was read or written
-pub record Unmade {C : Type 0} (wrote wrote' : List ℕ → Type 0) (old new : Side C) (status : ℕ) : Type 0 where
+pub record IsNotServed {C : Type 0} (wrote wrote' : List ℕ → Type 0) (old new : SessionState C) (status : ℕ)
+    : Type 0 where
   pub status_is : status ≡ 5
   pub kept : new ≡ record old { clock = new.clock }
   pub written : HasText wrote wrote' []
@@ -89,11 +137,24 @@ pub record IsOwnHistory (share : List ℕ) (moment : ℕ) (first whole : List No
   pub begins : first ≡ with_noted [] (creation share moment)
   pub rest : List Noted
   pub goes_on : whole ≡ first ++ rest
-  pub own : Each (λ n. n.entry.who ≡ session_caller) rest
+  pub own : AllByRecursion (λ n. n.entry.who ≡ session_caller) rest
 
--- the share was made at a moment, and the session was served behind what was seen then; the office was closed, and its history is
--- the program's own, or it could not be closed, which counts as want of memory
-pub record Served {C : Type 0} (ticks : C → ℕ → C → Type 0) (share : List ℕ) (wrote wrote' : List ℕ → Type 0) (old new : Side C) (status : ℕ) : Type 0 where
+-- the office was closed, and its history is the program's own
+pub record IsClosed (share : List ℕ) (moment : ℕ) (first seen : List Noted) (report : ConnReport) (status : ℕ)
+    : Type 0 where
+  pub history : IsOwnHistory share moment first seen
+  pub status_is : status ≡ status_of report
+
+-- the office could not be closed, since passes were out: that counts as out of memory
+pub record IsNotClosed (report : ConnReport) (status : ℕ) : Type 0 where
+  pub out : ℕ
+  pub some : 1 ≤ out
+  pub status_is : status ≡ status_of (record report { starved = true })
+
+-- the share was made at a moment, and the session was served behind what was seen then; then the office was closed,
+-- or could not be
+pub record IsServed {C : Type 0} (ticks : C → ℕ → C → Type 0) (share : List ℕ) (wrote wrote' : List ℕ → Type 0)
+    (old new : SessionState C) (status : ℕ) : Type 0 where
   pub moment : ℕ
   pub began : C
   pub made : ticks old.clock moment began
@@ -103,13 +164,27 @@ pub record Served {C : Type 0} (ticks : C → ℕ → C → Type 0) (share : Lis
   pub report : ConnReport
   pub conversation : Conversation session_caller history_limit loopback input_budget share ticks wrote wrote'
       (record old { seen = first; mine = []; clock = began }) (record new { seen = seen; mine = mine }) report
-  pub closed : (IsOwnHistory share moment first seen × (status ≡ status_of report)) ⊎ (status ≡ status_of (record report { starved = true }))
+  pub closed : IsClosed share moment first seen report status ⊎ IsNotClosed report status
 
 -- what a session on a share does, with the share made before it
-abbrev pub IsDone : {C : Type 0} → (C → ℕ → C → Type 0) → List ℕ → (List ℕ → Type 0) → (List ℕ → Type 0) → Side C → Side C → ℕ → Type 0
-IsDone ticks share wrote wrote' old new status = Unmade wrote wrote' old new status ⊎ Served ticks share wrote wrote' old new status
+abbrev pub IsSessionRun : {C : Type 0} → (C → ℕ → C → Type 0) → List ℕ → (List ℕ → Type 0) → (List ℕ → Type 0)
+    → SessionState C → SessionState C → ℕ → Type 0
+IsSessionRun ticks share wrote wrote' old new status =
+    IsNotServed wrote wrote' old new status ⊎ IsServed ticks share wrote wrote' old new status
+
+-- what a command does; one over a head leaves the clock
+abbrev pub IsRunOf : {K C : Type 0} → Command → (K → List ℕ → Type 0) → (C → ℕ → C → Type 0)
+    → Outside K C → Outside K C → ℕ → Type 0
+IsRunOf (command.Session share) wrote ticks old new status =
+    IsSessionRun ticks share (wrote old.out) (wrote new.out) (session_state old [] []) (session_state new [] []) status
+IsRunOf (command.Sign account) wrote ticks old new status =
+    (new.clock ≡ old.clock) × Signs wrote account (streams_of old) (streams_of new) status
+IsRunOf (command.Check account now) wrote ticks old new status =
+    (new.clock ≡ old.clock) × Checks wrote account now (streams_of old) (streams_of new) status
 
 -- what the program does by its words
-abbrev pub Ran : {C : Type 0} → List (List ℕ) → (C → ℕ → C → Type 0) → (List ℕ → Type 0) → (List ℕ → Type 0) → Side C → Side C → ℕ → Type 0
-Ran words ticks wrote wrote' old new status =
-    Refused words wrote wrote' old new status ⊎ (share : List ℕ) × IsSession words share × IsDone ticks share wrote wrote' old new status
+abbrev pub Runs : {K C : Type 0} → (K → List ℕ → Type 0) → (C → ℕ → C → Type 0) → List (List ℕ)
+    → Outside K C → Outside K C → ℕ → Type 0
+Runs wrote ticks words old new status =
+    RefusesWords wrote words old new status ⊎ LacksMemory old new status
+    ⊎ (command : Command) × IsCommand command words × IsRunOf command wrote ticks old new status

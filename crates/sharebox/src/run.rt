@@ -1,34 +1,43 @@
-ghost use Rattle.std.specs.Prelude.{◌≡◌, ◌+◌, ◌≤◌, ◌⊎◌, [], true, IfOk, OnOk, OnErr, map, Ok};
+//! The program by its words, over any input, output and clock.
+ghost use Rattle.std.specs.Prelude.{◌≡◌, ◌+◌, ◌≤◌, ◌⊎◌, [], IfOk, OnOk, map};
 ghost use Rattle.std.specs.String.{string_bytes};
 ghost use Rattle.sx_base.specs.Causes.{Rose};
-ghost use Rattle.sx_base.specs.Moments.{greatest_moment};
-ghost use Rattle.sx_book.specs.Passes.{first_pass, HasExactPlaces, OwnsEachSeen};
-ghost use Rattle.sx_smb_door.specs.Conversation.{Conversation, Side, HasText, HasPrefix};
+ghost use Rattle.sx_base.specs.Clock.{greatest_moment};
+ghost use Rattle.sx_book.specs.Passes.{first_pass};
+ghost use Rattle.sx_smb_door.specs.Conversation.{Conversation, SessionState, HasText, HasPrefix};
 ghost use Rattle.sharebox.specs.Opening.{HasMade, HasOpened};
-ghost use Rattle.sharebox.specs.Command.{Ran, IsDone, counted, history_limit, input_budget, loopback, refusal_line, session_caller, status_of};
+ghost use Rattle.sharebox.specs.Command.{Runs, IsSessionRun, status_by_counts, history_limit, input_budget, loopback};
+ghost use Rattle.sharebox.specs.Command.{refusal_line, status_of, status_after_close};
 
-use crate::words::{NoShare, session_share};
+use crate::command::{Command, WordsFault, command_of};
 use std::alloc::Global;
 use std::sync::Wait;
 use sx_base::{Both, Clock, NoMemory, Sink, Source};
-use sx_book::{ConnEnd, ConnReport, Office, Pass};
-use sx_call::Call;
+use sx_book::{Book, CloseFault, ConnEnd, ConnReport, Office, Pass};
 use sx_names::{Quota, ShareName};
 use sx_smb_door::serve_session;
+use sx_stage_call::Call;
+use sx_tool::{check_input, sign_input};
 
-/// The statuses of the program.
+/// The status where the input was read to its end.
 const DONE: u8 = 0;
 
+/// The status where the words are no command.
 const WORDS_REFUSED: u8 = 1;
 
+/// The status where a line was over its limit or cut, or the budget of bytes was spent.
 const INPUT_REFUSED: u8 = 2;
 
+/// The status where a read failed.
 const READ_FAULT: u8 = 3;
 
+/// The status where a write failed.
 const WRITE_FAULT: u8 = 4;
 
+/// The status where memory ran out, or the office gave no pass or could not be closed.
 const NO_MEMORY: u8 = 5;
 
+/// The status where the history was full.
 const HISTORY_FULL: u8 = 7;
 
 /// How many places the history has.
@@ -37,10 +46,10 @@ const HISTORY_LIMIT: u32 = 1_000_000;
 /// The quota of the session's share, in GiB.
 const SHARE_QUOTA: u32 = 5_120;
 
-/// The caller of the session.
+/// The caller of the session: the number of its pass.
 const SESSION_CALLER: u32 = 1;
 
-/// 127.0.0.1.
+/// The address of the session's peer: 127.0.0.1.
 const LOOPBACK: u32 = 0x7f00_0001;
 
 /// How many bytes of input a session may take.
@@ -48,7 +57,6 @@ const INPUT_BUDGET: u64 = 1 << 40;
 
 /// Makes the share of a session.
 fn create_share<R: Wait>(
-    alloc: Global,
     rt: &R,
     office: &Office,
     main: &mut Pass,
@@ -61,7 +69,7 @@ fn create_share<R: Wait>(
     ensures own { main.new.office ≡ office.now }
 {
     let call = Call::CreateShare {
-        share: share.copy(alloc)?,
+        share: share.copy()?,
         quota: Quota::of(SHARE_QUOTA),
     };
     match office.ask(rt, main, now, 0, None, call) {
@@ -72,7 +80,6 @@ fn create_share<R: Wait>(
 
 /// Makes the share, and takes a pass for the session, of number 1.
 fn open<R: Wait>(
-    alloc: Global,
     rt: &R,
     office: &Office,
     main: &mut Pass,
@@ -84,7 +91,7 @@ fn open<R: Wait>(
     ensures ok { IfOk result (λ pass. HasOpened office.now share.now now main.new pass) }
     ensures own { main.new.office ≡ office.now }
 {
-    create_share(alloc, rt, office, main, share, now)?;
+    create_share(rt, office, main, share, now)?;
     let Ok(pass) = office.split(rt, main) else {
         return Err(NoMemory);
     };
@@ -95,23 +102,19 @@ fn open<R: Wait>(
     Ok(pass)
 }
 
-/// Closes the office. Where it can't be closed it is let go of.
-fn close<R: Wait>(rt: &R, office: Office, main: Pass) -> bool
-    requires { main.office ≡ office }
-    ensures { result ≡ true → OwnsEachSeen main × HasExactPlaces main }
-{
-    match office.close(rt, main) {
-        Ok(_book) => true,
+/// Lets go of what an office's close gave: its book, or the office that could not be closed.
+fn let_go(closed: Result<Book, CloseFault<Office, Pass>>) {
+    match closed {
+        Ok(_book) => {}
         Err(fault) => {
             let _out = Office::abandon(fault);
-            false
         }
     }
 }
 
-/// The status of a session whose link let it go to its end.
-fn of_count(report: &ConnReport, status: u8) -> u8
-    ensures { result ≡ counted report.now.starved report.now.full status }
+/// The status of a session whose streams did not fail.
+fn status_by_counts(report: &ConnReport, status: u8) -> u8
+    ensures { result ≡ status_by_counts report.now.starved report.now.full status }
 {
     if report.starved {
         return NO_MEMORY;
@@ -123,23 +126,39 @@ fn of_count(report: &ConnReport, status: u8) -> u8
 }
 
 /// The status of a session's report.
-fn of_report(report: &ConnReport) -> u8
+fn status_of(report: &ConnReport) -> u8
     ensures { result ≡ status_of report.now }
 {
     match report.end {
         ConnEnd::ReadFault => READ_FAULT,
         ConnEnd::WriteFault => WRITE_FAULT,
         ConnEnd::NoMemory => NO_MEMORY,
-        ConnEnd::Full(_) => of_count(report, HISTORY_FULL),
+        ConnEnd::Full(_) => status_by_counts(report, HISTORY_FULL),
         ConnEnd::Cut { .. } | ConnEnd::Spent | ConnEnd::Closed { at: Some(_) } => {
-            of_count(report, INPUT_REFUSED)
+            status_by_counts(report, INPUT_REFUSED)
         }
-        ConnEnd::Ended | ConnEnd::Closed { at: None } => of_count(report, DONE),
+        ConnEnd::Ended | ConnEnd::Closed { at: None } => status_by_counts(report, DONE),
+    }
+}
+
+/// The status where the office was closed, or could not be, which counts as out of memory.
+fn status_after_close(closed: Result<Book, CloseFault<Office, Pass>>, report: ConnReport) -> u8
+    ensures { result ≡ status_after_close closed report }
+{
+    match closed {
+        Ok(_book) => status_of(&report),
+        Err(fault) => {
+            let _out = Office::abandon(fault);
+            status_of(&ConnReport {
+                starved: true,
+                ..report
+            })
+        }
     }
 }
 
 /// Serves one session on a share over input and output.
-fn serve<R: Wait, S: Source, K: Sink, C: Clock>(
+fn serve_streams<R: Wait, S: Source, K: Sink, C: Clock>(
     alloc: Global,
     rt: &R,
     office: &Office,
@@ -150,9 +169,24 @@ fn serve<R: Wait, S: Source, K: Sink, C: Clock>(
     clock: &mut C,
 ) -> ConnReport
     requires { pass.old.office ≡ office.now }
-    ensures conversation { Conversation pass.old.number pass.old.limit loopback input_budget share.now C.ticks (K.wrote out.old) (K.wrote out.new)
-        (record { left = S.left input.old; reads = S.read_count input.old; writes = K.write_count out.old; seen = pass.old.seen; mine = pass.old.mine; clock = clock.old })
-        (record { left = S.left input.new; reads = S.read_count input.new; writes = K.write_count out.new; seen = pass.new.seen; mine = pass.new.mine; clock = clock.new }) result }
+    ensures conversation { Conversation pass.old.number pass.old.limit loopback input_budget share.now C.ticks
+        (K.wrote out.old) (K.wrote out.new)
+        (record {
+          left = S.left input.old;
+          reads = S.read_count input.old;
+          writes = K.write_count out.old;
+          seen = pass.old.seen;
+          mine = pass.old.mine;
+          clock = clock.old;
+        })
+        (record {
+          left = S.left input.new;
+          reads = S.read_count input.new;
+          writes = K.write_count out.new;
+          seen = pass.new.seen;
+          mine = pass.new.mine;
+          clock = clock.new;
+        }) result }
     ensures pass { pass.new ≡ record pass.old { seen = pass.new.seen; mine = pass.new.mine } }
 {
     let mut link = Both {
@@ -172,8 +206,8 @@ fn serve<R: Wait, S: Source, K: Sink, C: Clock>(
     )
 }
 
-/// Makes the share in a new office, serves one session on it over input and output through a pass of its own, and closes the
-/// office.
+/// Makes the share in a new office, serves one session on it over input and output through a pass of its own, and
+/// closes the office.
 fn session<R: Wait, S: Source, K: Sink, C: Clock>(
     alloc: Global,
     rt: &R,
@@ -182,39 +216,60 @@ fn session<R: Wait, S: Source, K: Sink, C: Clock>(
     out: &mut K,
     clock: &mut C,
 ) -> u8
-    ensures { IsDone C.ticks share.now (K.wrote out.old) (K.wrote out.new)
-        (record { left = S.left input.old; reads = S.read_count input.old; writes = K.write_count out.old; seen = []; mine = []; clock = clock.old })
-        (record { left = S.left input.new; reads = S.read_count input.new; writes = K.write_count out.new; seen = []; mine = []; clock = clock.new }) result }
+    ensures { IsSessionRun C.ticks share.now (K.wrote out.old) (K.wrote out.new)
+        (record {
+          left = S.left input.old;
+          reads = S.read_count input.old;
+          writes = K.write_count out.old;
+          seen = [];
+          mine = [];
+          clock = clock.old;
+        })
+        (record {
+          left = S.left input.new;
+          reads = S.read_count input.new;
+          writes = K.write_count out.new;
+          seen = [];
+          mine = [];
+          clock = clock.new;
+        }) result }
 {
     let Ok((office, mut main)) = Office::begin(alloc, HISTORY_LIMIT) else {
         return NO_MEMORY;
     };
     let now = clock.now();
-    match open(alloc, rt, &office, &mut main, share, now) {
+    match open(rt, &office, &mut main, share, now) {
         Ok(mut pass) => {
-            let report = serve(alloc, rt, &office, &mut pass, share, input, out, clock);
+            let report = serve_streams(alloc, rt, &office, &mut pass, share, input, out, clock);
             office.meet(&mut main, pass);
-            if close(rt, office, main) {
-                of_report(&report)
-            } else {
-                of_report(&ConnReport {
-                    starved: true,
-                    ..report
-                })
-            }
+            status_after_close(office.close(rt, main), report)
         }
         Err(NoMemory) => {
-            let _closed = close(rt, office, main);
+            let_go(office.close(rt, main));
             NO_MEMORY
         }
     }
 }
 
+/// Refuses words that are no command.
+fn refuse_words<K: Sink>(out: &mut K) -> u8
+    ensures status { result ≡ 1 }
+    ensures written { HasText (K.wrote out.old) (K.wrote out.new) refusal_line
+        ⊎ (HasPrefix (K.wrote out.old) (K.wrote out.new) refusal_line
+        × Rose (K.write_count out.old) (K.write_count out.new)) }
+{
+    // The words are refused where this can't be written, too.
+    let _written = out.put(b"words refused\n");
+    WORDS_REFUSED
+}
+
 /// Does what the words of the command line say, and gives the program's status.
 ///
-/// `session SHARE` makes the share, and serves one session on it over input and output: 0 where the input was read to its
-/// end, 2 where a line was over its limit, cut, or past the budget of bytes, 3 and 4 where a read or write failed, 5 for want of
-/// memory or where the office gave no pass or could not be closed, 7 where the history was full. All other words are refused with 1.
+/// `session SHARE` makes the share, and serves one session on it over input and output: 0 where the input was read to
+/// its end, 2 where a line was over its limit, cut, or past the budget of bytes, 3 and 4 where a read or write
+/// failed, 5 where memory ran out, or the office gave no pass or could not be closed, 7 where the history was full.
+/// `sign ACCOUNT KEY` and
+/// `check ACCOUNT KEY TICKS` do what `sx_tool::run_tool` says, and ask no clock. All other words are refused with 1.
 pub fn run<R: Wait, S: Source, K: Sink, C: Clock>(
     alloc: Global,
     rt: &R,
@@ -223,17 +278,27 @@ pub fn run<R: Wait, S: Source, K: Sink, C: Clock>(
     out: &mut K,
     clock: &mut C,
 ) -> u8
-    ensures { Ran (map string_bytes words.now) C.ticks (K.wrote out.old) (K.wrote out.new)
-        (record { left = S.left input.old; reads = S.read_count input.old; writes = K.write_count out.old; seen = []; mine = []; clock = clock.old })
-        (record { left = S.left input.new; reads = S.read_count input.new; writes = K.write_count out.new; seen = []; mine = []; clock = clock.new }) result }
+    ensures { Runs K.wrote C.ticks (map string_bytes words.now)
+        (record {
+          left = S.left input.old;
+          reads = S.read_count input.old;
+          out = out.old;
+          writes = K.write_count out.old;
+          clock = clock.old;
+        })
+        (record {
+          left = S.left input.new;
+          reads = S.read_count input.new;
+          out = out.new;
+          writes = K.write_count out.new;
+          clock = clock.new;
+        }) result }
 {
-    match session_share(alloc, words) {
-        Ok(share) => session(alloc, rt, &share, input, out, clock),
-        Err(NoShare::NoMemory) => NO_MEMORY,
-        Err(NoShare::Unknown) => {
-            // The words are refused where this can't be written, too.
-            let _written = out.put(b"words refused\n");
-            WORDS_REFUSED
-        }
+    match command_of(alloc, words) {
+        Ok(Command::Session(share)) => session(alloc, rt, &share, input, out, clock),
+        Ok(Command::Sign(account)) => sign_input(alloc, &account, input, out),
+        Ok(Command::Check(account, now)) => check_input(alloc, &account, now, input, out),
+        Err(WordsFault::NoMemory) => NO_MEMORY,
+        Err(WordsFault::Unknown) => refuse_words(out),
     }
 }

@@ -2,7 +2,8 @@
 
 use super::run::run;
 use std::alloc::Global;
-use std::test::Fail;
+use std::process::Abort;
+use std::sync::Wait;
 use sx_base::{MemSink, MemSource, StepClock};
 
 /// No call fails.
@@ -19,7 +20,7 @@ struct Row {
     status: u8,
 }
 
-const ROWS: [Row; 14] = [
+const ROWS: [Row; 17] = [
     Row {
         words: &["session", "data"],
         input: b"",
@@ -33,23 +34,57 @@ const ROWS: [Row; 14] = [
         input: b"open data a.txt rw rwd create file\nwrite 1 0 68690a\nread 1 0 16\nclose 1\nread 1 0 16\n",
         read: NONE,
         put: NONE,
-        out: b"OK 3 open 1 created 2 0\nOK 4 write 3 3\nOK 5 read 3 68690a\nOK 6 close kept\nERR INVALID_HANDLE 7 handle 1.1\n",
+        out: b"\
+            OK 3 open 1 created 2 0\n\
+            OK 4 write 3 3\n\
+            OK 5 read 3 68690a\n\
+            OK 6 close kept\n\
+            ERR INVALID_HANDLE 7 handle 1.1\n\
+        ",
         status: 0,
     },
     Row {
         words: &["session", "data"],
-        input: b"open data a.txt rw rwd create file\nopen data a.txt rw rwd create file\nopen data b.txt rw rwd existing file\nsing\n",
+        input: b"\
+            open data a.txt rw rwd create file\n\
+            open data a.txt rw rwd create file\n\
+            open data b.txt rw rwd existing file\n\
+            sing\n\
+        ",
         read: NONE,
         put: NONE,
-        out: b"OK 3 open 1 created 2 0\nERR OBJECT_NAME_COLLISION 4 there id 2\nERR OBJECT_NAME_NOT_FOUND 5 no name\nERR NOT_BUILT\n",
+        out: b"\
+            OK 3 open 1 created 2 0\n\
+            ERR OBJECT_NAME_COLLISION 4 there id 2\n\
+            ERR OBJECT_NAME_NOT_FOUND 5 no name\n\
+            ERR NOT_BUILT\n\
+        ",
         status: 0,
     },
     Row {
         words: &["session", "data"],
-        input: b"open data A.txt rw rwd create file\nwrite 1 4 ff\nopen data a.TXT rw rwd existing file\nread 2 0 16\nread 1 5 16\nopen other a.txt rw rwd existing file\nclose 2\nclose 2\n",
+        input: b"\
+            open data A.txt rw rwd create file\n\
+            write 1 4 ff\n\
+            open data a.TXT rw rwd existing file\n\
+            read 2 0 16\n\
+            read 1 5 16\n\
+            open other a.txt rw rwd existing file\n\
+            close 2\n\
+            close 2\n\
+        ",
         read: NONE,
         put: NONE,
-        out: b"OK 3 open 1 created 2 0\nOK 4 write 1 5\nOK 5 open 2 opened 2 5\nOK 6 read 5 00000000ff\nOK 7 read 0 -\nERR NOT_BUILT\nOK 8 close kept\nERR INVALID_HANDLE 9 handle 1.2\n",
+        out: b"\
+            OK 3 open 1 created 2 0\n\
+            OK 4 write 1 5\n\
+            OK 5 open 2 opened 2 5\n\
+            OK 6 read 5 00000000ff\n\
+            OK 7 read 0 -\n\
+            ERR NOT_BUILT\n\
+            OK 8 close kept\n\
+            ERR INVALID_HANDLE 9 handle 1.2\n\
+        ",
         status: 0,
     },
     Row {
@@ -132,30 +167,71 @@ const ROWS: [Row; 14] = [
         out: b"",
         status: 1,
     },
+    Row {
+        words: &["sign", "ab"],
+        input: b"",
+        read: NONE,
+        put: NONE,
+        out: b"words refused\n",
+        status: 1,
+    },
+    Row {
+        words: &["sign", "abc", "a2V5"],
+        input: b"",
+        read: NONE,
+        put: NONE,
+        out: b"",
+        status: 2,
+    },
+    Row {
+        words: &["check", "abc", "a2V5", "0"],
+        input: b"GET",
+        read: 1,
+        put: NONE,
+        out: b"",
+        status: 3,
+    },
 ];
 
-#[test]
-fn commands_answer(rt: HostRuntime) -> Result<(), Fail> {
-    let alloc = rt.alloc();
-    for (number, row) in ROWS.iter().enumerate() {
-        let mut words = Vec::new(alloc);
-        for word in row.words {
-            words.push(String::from_str(alloc, word)?)?;
-        }
-        let bytes = Vec::from_slice(alloc, row.input)?;
-        let mut input = MemSource::new(bytes, 5, Vec::from_slice(alloc, &[row.read])?);
-        let mut out = MemSink::new(alloc, Vec::from_slice(alloc, &[row.put])?);
-        let mut clock = StepClock { at: 5, step: 1 };
-        let status = run(
-            alloc,
-            &rt,
-            words.as_slice(),
-            &mut input,
-            &mut out,
-            &mut clock,
-        );
-        assert_eq!(rt; status, row.status, "at {number}");
-        assert!(rt; out.bytes() == row.out, "at {number}");
+fn list<T: Copy>(rt: &impl Abort, alloc: Global, items: &[T]) -> Vec<T> {
+    match Vec::from_slice(alloc, items) {
+        Ok(items) => items,
+        Err(_) => panic!(rt; "no memory"),
     }
-    Ok(())
+}
+
+fn words_of(rt: &impl Abort, alloc: Global, row: &Row) -> Vec<String> {
+    let mut words = Vec::new(alloc);
+    for word in row.words {
+        let Ok(word) = String::from_str(alloc, word) else {
+            panic!(rt; "no memory");
+        };
+        assert!(rt; words.push(word).is_ok());
+    }
+    words
+}
+
+fn check_row<R: Abort + Wait>(rt: &R, alloc: Global, number: usize, row: &Row) {
+    let words = words_of(rt, alloc, row);
+    let reads = list(rt, alloc, &[row.read]);
+    let mut input = MemSource::new(list(rt, alloc, row.input), 5, reads);
+    let mut out = MemSink::new(alloc, list(rt, alloc, &[row.put]));
+    let mut clock = StepClock { at: 5, step: 1 };
+    let status = run(
+        alloc,
+        rt,
+        words.as_slice(),
+        &mut input,
+        &mut out,
+        &mut clock,
+    );
+    assert_eq!(rt; status, row.status, "at {number}");
+    assert!(rt; out.bytes() == row.out, "at {number}");
+}
+
+#[test]
+fn commands_answer(rt: HostRuntime) {
+    for (number, row) in ROWS.iter().enumerate() {
+        check_row(&rt, rt.alloc(), number, row);
+    }
 }

@@ -1,7 +1,7 @@
 -- The next call of an object in memory.
 use Rattle.std.proofs.Common.{ℕ, ◌≡◌, ◌+◌, List, Bool, cond, refl, ap, arith}
 use Rattle.std.proofs.Math.Nat.{add-zero}
-use Rattle.sx_base.specs.FailingCalls.{lists, listed, FailsAsListed}
+use Rattle.sx_base.specs.Calls.{lists, listed, FailsAsListed}
 
 listed_one : (failing : List ℕ) (made : ℕ) → listed failing made 1 ≡ cond (lists failing made) 1 0
 unfolding listed

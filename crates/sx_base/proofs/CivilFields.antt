@@ -9,8 +9,8 @@ use Rattle.jiff.proofs.Family.{epoch_day-lt, epoch_day_same, epoch_day_injective
 use Rattle.jiff_core.specs.Calendar.{days_from_civil, day_count, days_of_years, days_of_months}
 use Rattle.jiff_core.proofs.DateLemmas.{cases_date}
 use Rattle.sx_text.specs.Numbers.{IsFrom}
-use Rattle.sx_base.specs.MomentTexts.{Fields, fields_of, IsCivilTime, IsMoment}
-use Rattle.sx_base.specs.MomentFields.{is_last_day, month_most, day_most, hour_most, minute_most, second_most, ticks_most, IsFields, IsCivil, Shows}
+use Rattle.sx_base.specs.Moment.{Fields, fields_of, IsCivilTime, IsMoment}
+use Rattle.sx_base.specs.MomentReader.{is_last_day, month_most, day_most, hour_most, minute_most, second_most, ticks_most, IsFields, IsCivil, Shows}
 use Rattle.sx_base.proofs.MomentReading.{days_in_is}
 use Rattle.sx_base.proofs.Years.{civil_from, day_from}
 

@@ -1,8 +1,10 @@
+pub mod Buffers
 pub mod Calling
 pub mod CivilFields
 pub mod Firsts
+pub mod MomentForms
 pub mod MomentReading
-pub mod Moments
+pub mod Steps
 pub mod Printing
 pub mod SameForms
 pub mod Streams

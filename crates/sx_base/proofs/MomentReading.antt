@@ -8,8 +8,8 @@ use Rattle.sx_text.specs.Digits.{digits_text, digits_after}
 use Rattle.sx_text.proofs.Laws.{Reads, pair-reading}
 use Rattle.sx_text.proofs.Literals.{closed-reading}
 use Rattle.sx_text.proofs.FixedDigits.{digits_after-reading}
-use Rattle.sx_base.specs.MomentTexts.{Day, Clock, day_text, clock_text, fields_text}
-use Rattle.sx_base.specs.MomentFields.{is_last_day, month_most, day_most, hour_most, minute_most, second_most, ticks_most, IsDay, IsClock, IsFields, day_at, clock_at, ticks_at, fields_at}
+use Rattle.sx_base.specs.Moment.{Day, TimeOfDay, day_text, time_text, fields_text}
+use Rattle.sx_base.specs.MomentReader.{is_last_day, month_most, day_most, hour_most, minute_most, second_most, ticks_most, IsDay, IsTimeOfDay, IsFields, day_at, time_at, ticks_at, fields_at}
 
 -- each greatest value is at least the least, and has so few digits
 between : (b : Bool) (low x y high : ℕ) → low ≤ x → low ≤ y → x ≤ high → y ≤ high → (low ≤ cond b x y) × (cond b x y ≤ high)
@@ -42,7 +42,7 @@ pub second_most_is : (d : Day) (h m : ℕ) → second_most d h m ≤ 99
 unfolding second_most
 second_most_is d h m = (between (is_last_day d && (eqb h 12 && eqb m 33)) 0 49 59 99 (omega arith) (omega arith) (omega arith) (omega arith)).1
 
-pub ticks_most_is : (d : Day) (t : Clock) → ticks_most d t ≤ 9999999
+pub ticks_most_is : (d : Day) (t : TimeOfDay) → ticks_most d t ≤ 9999999
 unfolding ticks_most
 ticks_most_is d t = (between (is_last_day d && (eqb t.0 12 && (eqb t.1.0 33 && eqb t.1.1 49))) 0 4967295 9999999 9999999 (omega arith) (omega arith) (omega arith) (omega arith)).1
 
@@ -60,9 +60,9 @@ day-reading k =
     (λ m q. (1, (omega arith, (day_most_is y m).0)))
     (λ m i q le. digits_after-reading (codes "-") 1 1 (day_most y m) (day_most_is y m).0 (omega (arith, (day_most_is y m).1)) i))
 
-clock-reading : (d : Day) → Reads cases_eq clock_text (IsClock d) (clock_at d)
-unfolding clock_at
-clock-reading d k =
+time-reading : (d : Day) → Reads cases_eq time_text (IsTimeOfDay d) (time_at d)
+unfolding time_at
+time-reading d k =
     pair-reading cases_eq k (λ h. codes "T" ++ digits_text 2 h) (IsFrom 0 (hour_most d)) (digits_after (codes "T") 1 0 (hour_most d))
     (λ h ms. (codes ":" ++ digits_text 2 ms.0) ++ (codes ":" ++ digits_text 2 ms.1)) (λ h ms. IsFrom 0 (minute_most d h) ms.0 × IsFrom 0 (second_most d h ms.0) ms.1)
     (λ h. pair_at (digits_after (codes ":") 1 0 (minute_most d h)) (λ m. digits_after (codes ":") 1 0 (second_most d h m)))
@@ -74,7 +74,7 @@ clock-reading d k =
     (λ m r. (0, (omega arith, omega arith)))
     (λ m i r le. digits_after-reading (codes ":") 1 0 (second_most d h m) (omega arith) (omega (arith, second_most_is d h m)) i))
 
-ticks-reading : (d : Day) (t : Clock) → Reads cases_eq (λ f. (codes "." ++ digits_text 7 f) ++ codes "Z") (IsFrom 0 (ticks_most d t)) (ticks_at d t)
+ticks-reading : (d : Day) (t : TimeOfDay) → Reads cases_eq (λ f. (codes "." ++ digits_text 7 f) ++ codes "Z") (IsFrom 0 (ticks_most d t)) (ticks_at d t)
 unfolding ticks_at
 ticks-reading d t = closed-reading (λ f. codes "." ++ digits_text 7 f) (IsFrom 0 (ticks_most d t)) (digits_after (codes ".") 6 0 (ticks_most d t)) (codes "Z")
     (digits_after-reading (codes ".") 6 0 (ticks_most d t) (omega arith) (omega (arith, ticks_most_is d t)))
@@ -83,11 +83,11 @@ pub fields-reading : Reads cases_eq fields_text IsFields fields_at
 unfolding fields_at fields_text
 fields-reading k =
     pair-reading cases_eq k day_text IsDay day_at
-    (λ d tf. clock_text tf.0 ++ ((codes "." ++ digits_text 7 tf.1) ++ codes "Z")) (λ d tf. IsClock d tf.0 × IsFrom 0 (ticks_most d tf.0) tf.1)
-    (λ d. pair_at (clock_at d) (λ t. ticks_at d t))
+    (λ d tf. time_text tf.0 ++ ((codes "." ++ digits_text 7 tf.1) ++ codes "Z")) (λ d tf. IsTimeOfDay d tf.0 × IsFrom 0 (ticks_most d tf.0) tf.1)
+    (λ d. pair_at (time_at d) (λ t. ticks_at d t))
     day-reading
     (λ d h. (((0, (0, 0)), 0), (((omega arith, omega arith), ((omega arith, omega arith), (omega arith, omega arith))), (omega arith, omega arith))))
-    (λ d j h le. pair-reading cases_eq j clock_text (IsClock d) (clock_at d) (λ t f. (codes "." ++ digits_text 7 f) ++ codes "Z") (λ t f. IsFrom 0 (ticks_most d t) f) (λ t. ticks_at d t)
-    (clock-reading d)
+    (λ d j h le. pair-reading cases_eq j time_text (IsTimeOfDay d) (time_at d) (λ t f. (codes "." ++ digits_text 7 f) ++ codes "Z") (λ t f. IsFrom 0 (ticks_most d t) f) (λ t. ticks_at d t)
+    (time-reading d)
     (λ t q. (0, (omega arith, omega arith)))
     (λ t i q le. ticks-reading d t i))

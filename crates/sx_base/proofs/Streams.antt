@@ -45,3 +45,9 @@ pub end_kept : (a b : Option (List ℕ)) → Keeps a b → IsAtEnd b → IsAtEnd
 end_kept None b h k = tt
 end_kept (Some xs) None h k = absurd h
 end_kept (Some xs) (Some ys) h k = sym h ∙ k
+
+-- nothing was taken
+pub keeps_none : (a b : Option (List ℕ)) → Consumes a b [] → Keeps a b
+keeps_none None b h = tt
+keeps_none (Some xs) None h = absurd h
+keeps_none (Some xs) (Some ys) h = sym h

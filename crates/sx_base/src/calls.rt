@@ -1,6 +1,7 @@
+//! The calls of an object in memory, and which of them are to fail.
 ghost use Rattle.std.specs.Prelude.{◌≡◌, ◌+◌, ◌-◌, ◌^◌, ◌≤◌, OnOk, OnErr, IsErr, is_err, min};
 ghost use Rattle.sx_base.specs.Causes.{HasCause};
-ghost use Rattle.sx_base.specs.FailingCalls.{is_next_listed, most_calls, FailsAsListed};
+ghost use Rattle.sx_base.specs.Calls.{is_next_listed, most_calls, FailsAsListed};
 
 use crate::fault::Failed;
 use crate::items::Items;
@@ -16,7 +17,7 @@ pub struct Calls {
 
 impl Model for Calls {
     ghost use Rattle.std.specs.Prelude.{◌≤◌};
-    ghost use Rattle.sx_base.specs.FailingCalls.{CallCounts};
+    ghost use Rattle.sx_base.specs.Calls.{CallCounts};
 
     ghost Value = { CallCounts };
 

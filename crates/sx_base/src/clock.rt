@@ -1,12 +1,14 @@
+//! Clocks, and a clock that tells moments step by step.
 ghost use Rattle.std.specs.Prelude.{◌≡◌, ◌+◌, ◌≤◌, min, ℕ};
-ghost use Rattle.sx_base.specs.Moments.{greatest_moment};
+ghost use Rattle.sx_base.specs.Clock.{greatest_moment};
 
 /// The greatest moment that a clock tells, in ticks of 100 ns since 1970-01-01T00:00:00Z.
 pub const GREATEST_MOMENT: u64 = 2_500_000_000_000_000_000;
 
 /// A clock, which tells moments in ticks of 100 ns since 1970-01-01T00:00:00Z. It can't fail.
 pub trait Clock: Sized + Send + Drop {
-    /// One step: the clock before it, the moment that it told, the clock after it. The system's clock allows every step.
+    /// One step: the clock before it, the moment that it told, the clock after it. The system's clock allows every
+    /// step.
     ghost ticks: { Self → ℕ → Self → Type 0 };
 
     /// The present moment.
@@ -22,7 +24,9 @@ pub trait Clock: Sized + Send + Drop {
 /// A clock that tells `at`, `at + step` and so on, and stops at the greatest moment.
 #[derive(Clone, Copy, Debug, PartialEq, Eq)]
 pub struct StepClock {
+    /// The next moment, in ticks of 100 ns since 1970-01-01T00:00:00Z.
     pub at: u64,
+    /// How many ticks lie between one moment and the next.
     pub step: u64,
 }
 

@@ -1,7 +1,8 @@
+//! Header dates: the text of a moment, and the moment of a text.
 ghost use Rattle.std.specs.Prelude.{◌≡◌, ◌≤◌, ◌*◌, ◌/◌, ℕ, List, Some, None, option_map};
 ghost use Rattle.httpdate.specs.Date.{parse_secs};
-ghost use Rattle.sx_base.specs.MomentTexts.{greatest_written};
-ghost use Rattle.sx_base.specs.Dates.{IsDateOf, ReadsDate};
+ghost use Rattle.sx_base.specs.Moment.{greatest_written};
+ghost use Rattle.sx_base.specs.Date.{IsDateOf, ReadsDate};
 
 use httpdate::HttpDate;
 
@@ -28,8 +29,10 @@ pub fn read_date(text: &[u8]) -> Option<u64>
     }
 }
 
-/// The law of dates: a printed date is read, and gives the beginning of the second in which the moment lies. It does nothing.
+/// The law of dates: a printed date is read, and gives the beginning of the second in which the moment lies. It does
+/// nothing.
 pub fn printed_dates_are_read_back()
     ensures some { (text : List ℕ) (at : ℕ) → IsDateOf text at → ReadsDate text None → ⊥ }
-    ensures same { (text : List ℕ) (at read : ℕ) → IsDateOf text at → ReadsDate text (Some read) → read ≡ at / 10_000_000 * 10_000_000 }
+    ensures same { (text : List ℕ) (at read : ℕ) → IsDateOf text at → ReadsDate text (Some read)
+        → read ≡ at / 10_000_000 * 10_000_000 }
 {}

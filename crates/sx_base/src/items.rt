@@ -1,11 +1,14 @@
-ghost use Rattle.std.specs.Prelude.{◌≡◌, [], ◌∷◌, ◌++◌, ◌<◌, ◌≤◌, ◌+◌, ◌-◌, length, slice_get, OnOk, OnErr, OnSome, IfOk, bytes_eq, take, drop, replicate};
+//! Lists that contracts see as their items.
+ghost use Rattle.std.specs.Prelude.{◌≡◌, [], ◌∷◌, ◌++◌, ◌<◌, ◌≤◌, ◌+◌, ◌-◌, length, slice_get, OnOk, OnErr, OnSome};
+ghost use Rattle.std.specs.Prelude.{IfOk, bytes_eq, take, drop, replicate};
 ghost use Rattle.std.specs.Option.{option_copied};
-ghost use Rattle.std.specs.Cmp.Lexicographic.{pointwise, slice_cmp, slice_partial_cmp, lists_per, lists_equiv, lists_po, lists_total, lists_agrees, lists_ties};
+ghost use Rattle.std.specs.Cmp.Lexicographic.{pointwise, slice_cmp, slice_partial_cmp, lists_per, lists_equiv};
+ghost use Rattle.std.specs.Cmp.Lexicographic.{lists_po, lists_total, lists_agrees, lists_ties};
 
-use crate::fault::NoMemory;
 use std::alloc::Global;
 use std::cmp::Ordering;
 use std::marker::Model;
+use sx_memory::NoMemory;
 
 /// A `Vec` that contracts see as the list of its items: neither its capacity nor its address is part of its value.
 #[derive(Debug, Drop)]
@@ -79,6 +82,19 @@ impl<T> Items<T> {
         Items { items }
     }
 
+    /// The vector that holds the items. It takes no memory.
+    pub fn into_vec(self) -> Vec<T>
+        ensures { result.items ≡ self }
+    {
+        let Items { items } = self;
+        items
+    }
+
+    /// The allocator with which the items were made.
+    pub fn allocator(&self) -> Global {
+        *self.items.allocator()
+    }
+
     /// The items as a slice.
     pub fn as_slice(&self) -> &[T]
         ensures { result.now ≡ self.now }
@@ -114,11 +130,20 @@ impl<T: Drop> Items<T> {
 }
 
 impl<T: Copy> Items<T> {
-    /// An equal list of its own.
-    pub fn copy(&self, alloc: Global) -> Result<Items<T>, NoMemory>
+    /// An equal list of its own, with the same allocator.
+    pub fn copy(&self) -> Result<Items<T>, NoMemory>
         ensures { IfOk result (λ it. it ≡ self.now) }
     {
-        Items::copy_of(alloc, self.items.as_slice())
+        Items::copy_of(self.allocator(), self.items.as_slice())
+    }
+
+    /// Puts the items of a slice behind the others.
+    pub fn append(&mut self, items: &[T]) -> Result<(), NoMemory>
+        ensures ok { OnOk result (self.new ≡ self.old ++ items.now) }
+        ensures err { OnErr result (self.new ≡ self.old) }
+    {
+        self.items.extend_from_slice(items)?;
+        Ok(())
     }
 
     /// The items of a slice, copied.

@@ -1,11 +1,14 @@
-//! The outside of a program (bytes in and out, links, moments, random words), lists in contracts, and printing without memory.
+//! The outside of a program (bytes in and out, links, moments, random words), lists in contracts, and printing
+//! without memory.
 #![tactic(auto)]
 
+mod buffer;
 mod calls;
 mod clock;
 mod date;
 mod dialer;
 mod fault;
+mod input;
 mod items;
 mod link;
 mod listener;
@@ -14,16 +17,19 @@ mod mem_links;
 mod memory;
 mod moment;
 mod moment_reader;
+mod output;
 mod printer;
 mod random;
 mod sink;
 mod source;
 mod system;
 
+pub use buffer::{Buffer, Refill};
 pub use clock::{Clock, GREATEST_MOMENT, StepClock};
 pub use date::{print_date, printed_dates_are_read_back, read_date};
 pub use dialer::Dialer;
-pub use fault::{Failed, NoMemory};
+pub use fault::Failed;
+pub use input::Input;
 pub use items::Items;
 pub use link::{Both, Link};
 pub use listener::Listener;
@@ -31,16 +37,11 @@ pub use loopback::{LoopbackDialer, LoopbackListener, TcpLink};
 pub use mem_links::{MemDialer, MemListener};
 pub use memory::{MemLink, MemSink, MemSource};
 pub use moment::print_moment;
-pub use moment_reader::{BadMoment, printed_moments_are_read_back, read_moment};
+pub use moment_reader::{BadMoment, printed_moments_are_read_back, read_moment, take_moment};
+pub use output::Output;
 pub use printer::{Fragment, print};
 pub use random::{Random, StepWords};
 pub use sink::Sink;
 pub use source::Source;
-pub use system::{Input, Output, SystemClock, SystemRandom};
-
-#[cfg(test)]
-mod link_tests;
-#[cfg(test)]
-mod moment_tests;
-#[cfg(test)]
-mod tests;
+pub use sx_memory::NoMemory;
+pub use system::{SystemClock, SystemRandom};

@@ -1,17 +1,18 @@
+//! Where links come from.
 ghost use Rattle.std.specs.Prelude.{◌≡◌, ◌<◌, ◌≤◌, ℕ, IfOk, IfSome};
 ghost use Rattle.std.specs.Option.{option_map};
 ghost use Rattle.std.specs.declared.option.Option.{Option};
 ghost use Rattle.sx_base.specs.Causes.{HasCause, TakesOver};
-ghost use Rattle.sx_base.specs.ToldLinks.{Links, Accepts, after_finished, no_links};
+ghost use Rattle.sx_base.specs.LinkLists.{Links, Accepts, after_finished, no_links};
 
 use crate::fault::Failed;
 use crate::link::Link;
 
 /// Where links come from.
 ///
-/// A listener tells its links where it can, as one in memory does: those left, those finished, and how many it gave that
-/// aren't finished. One of the system tells none. It counts its faults: the count never falls, and `Failed` comes only where
-/// it rose.
+/// A listener tells its links where it can, as one in memory does: those left, those finished, and how many it gave
+/// that aren't finished. One of the system tells none. It counts its faults: the count never falls, and `Failed`
+/// comes only where it rose.
 pub trait Listener: Sized + Send + Drop {
     type Link: Link + Drop;
 
@@ -31,7 +32,8 @@ pub trait Listener: Sized + Send + Drop {
         ensures links { Accepts (links self.old) result (links self.new) }
         ensures cause { HasCause (listen_count self.old) (listen_count self.new) result };
 
-    /// Puts a served link behind the finished ones. Where the listener tells its links, it gave one that isn't finished.
+    /// Puts a served link behind the finished ones. Where the listener tells its links, it gave one that isn't
+    /// finished.
     fn finish(&mut self, link: Self::Link)
         requires { IfSome (links self.old) (λ links. 0 < links.given) }
         ensures links { links self.new ≡ option_map (after_finished link) (links self.old) }

@@ -1,3 +1,4 @@
+//! Links, listeners and dialers of TCP on 127.0.0.1.
 ghost use Rattle.std.specs.Prelude.{◌≡◌, List, ℕ, None, ⊤};
 
 use crate::dialer::Dialer;

@@ -1,16 +1,19 @@
-ghost use Rattle.std.specs.Prelude.{◌≡◌, ◌+◌, ◌<◌, ◌≤◌, ◌↔◌, [], IfOk, IsOk, IsOkAnd, IsTrue, OnOk, OnErr, slice_get, Some, Ok, length};
+//! Listeners and dialers in memory.
+ghost use Rattle.std.specs.Prelude.{◌≡◌, ◌+◌, ◌<◌, ◌≤◌, ◌↔◌, [], IfOk, IsOk, IsOkAnd, IsTrue, OnOk, OnErr, slice_get};
+ghost use Rattle.std.specs.Prelude.{Some, Ok, length};
 ghost use Rattle.std.specs.Option.{option_map};
-ghost use Rattle.sx_base.specs.ToldLinks.{no_links, after_finished, Accepts, Dials, Gives};
+ghost use Rattle.sx_base.specs.LinkLists.{no_links, after_finished, Accepts, Dials, GivesLink};
 ghost use Rattle.sx_base.specs.Causes.{HasCause};
 
 use crate::dialer::Dialer;
-use crate::fault::{Failed, NoMemory};
+use crate::fault::Failed;
 use crate::listener::Listener;
 use crate::memory::MemLink;
 use crate::sink::Sink;
 use crate::source::Source;
 use std::alloc::Global;
 use std::marker::Model;
+use sx_memory::NoMemory;
 
 /// Links in memory. The room for the finished ones is taken when they are made, so that finishing takes no memory.
 #[derive(Drop)]
@@ -22,7 +25,7 @@ struct MemLinks {
 
 impl Model for MemLinks {
     ghost use Rattle.std.specs.Prelude.{◌+◌, ◌≤◌, vec_len, vec_capacity};
-    ghost use Rattle.sx_base.specs.ToldLinks.{Links};
+    ghost use Rattle.sx_base.specs.LinkLists.{Links};
     ghost use Rattle.sx_base.specs.declared.memory.MemLink.{MemLink};
 
     ghost Value = { Links MemLink };
@@ -59,7 +62,7 @@ impl MemLinks {
     /// Gives the first link left.
     fn give(&mut self) -> MemLink
         requires { 0 < length self.old.left }
-        ensures { Gives (Some self.old) result (Some self.new) }
+        ensures { GivesLink (Some self.old) result (Some self.new) }
     {
         self.given += 1;
         self.left.remove(0)
@@ -75,7 +78,8 @@ impl MemLinks {
     }
 }
 
-/// A listener in memory, which gives the links that it has, and then none. No call of it fails, and a fork of it has no link.
+/// A listener in memory, which gives the links that it has, and then none. No call of it fails, and a fork of it has
+/// no link.
 #[derive(Drop)]
 pub struct MemListener {
     links: MemLinks,
@@ -85,7 +89,9 @@ pub struct MemListener {
 impl MemListener {
     /// A listener with these links left, without a fault.
     pub fn new(alloc: Global, left: Vec<MemLink>) -> Result<MemListener, NoMemory>
-        ensures links { IfOk result (λ listener. ⟦<MemListener as Listener>⟧.links listener ≡ Some (record { left = left.items; finished = []; given = 0 })) }
+        ensures links { IfOk result
+            (λ listener. ⟦<MemListener as Listener>⟧.links listener ≡ Some
+            (record { left = left.items; finished = []; given = 0 })) }
         ensures faults { IfOk result (λ listener. ⟦<MemListener as Listener>⟧.listen_count listener ≡ 0) }
     {
         let links = MemLinks::new(alloc, left)?;
@@ -161,7 +167,8 @@ impl Listener for MemListener {
     }
 }
 
-/// A dialer in memory, which gives the links that it has. A dial fails where none is left, or where the first one has failed before.
+/// A dialer in memory, which gives the links that it has. A dial fails where none is left, or where the first one has
+/// failed before.
 #[derive(Drop)]
 pub struct MemDialer {
     links: MemLinks,
@@ -171,7 +178,9 @@ pub struct MemDialer {
 impl MemDialer {
     /// A dialer with these links left, without a fault.
     pub fn new(alloc: Global, left: Vec<MemLink>) -> Result<MemDialer, NoMemory>
-        ensures links { IfOk result (λ dialer. ⟦<MemDialer as Dialer>⟧.links dialer ≡ Some (record { left = left.items; finished = []; given = 0 })) }
+        ensures links { IfOk result
+            (λ dialer. ⟦<MemDialer as Dialer>⟧.links dialer ≡ Some
+            (record { left = left.items; finished = []; given = 0 })) }
         ensures faults { IfOk result (λ dialer. ⟦<MemDialer as Dialer>⟧.dial_count dialer ≡ 0) }
     {
         let links = MemLinks::new(alloc, left)?;
@@ -195,7 +204,8 @@ impl MemDialer {
 
 /// Whether no call of a link has failed.
 fn is_faultless(link: &MemLink) -> bool
-    ensures { IsTrue result ↔ (⟦<MemLink as Source>⟧.read_count link.now + ⟦<MemLink as Sink>⟧.write_count link.now ≡ 0) }
+    ensures { IsTrue result ↔
+        (⟦<MemLink as Source>⟧.read_count link.now + ⟦<MemLink as Sink>⟧.write_count link.now ≡ 0) }
 {
     link.read_faults() == 0 && link.write_faults() == 0
 }
@@ -213,7 +223,8 @@ impl Dialer for MemDialer {
         ensures writes { IfOk result (λ link. ⟦<MemLink as Sink>⟧.write_count link ≡ 0) }
         ensures ok { OnOk result (self.new.faults ≡ self.old.faults) }
         ensures cause { HasCause self.old.faults self.new.faults result }
-        ensures fails { OnErr result ((link : MemLink) → slice_get self.old.links.left 0 ≡ Some link → 0 < ⟦<MemLink as Source>⟧.read_count link + ⟦<MemLink as Sink>⟧.write_count link) }
+        ensures fails { OnErr result ((link : MemLink) → slice_get self.old.links.left 0 ≡ Some link
+            → 0 < ⟦<MemLink as Source>⟧.read_count link + ⟦<MemLink as Sink>⟧.write_count link) }
     {
         if !self.links.left.is_empty() && is_faultless(&self.links.left[0]) {
             return Ok(self.links.give());

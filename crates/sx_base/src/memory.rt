@@ -1,8 +1,10 @@
-ghost use Rattle.std.specs.Prelude.{◌≡◌, ◌+◌, ◌-◌, ◌^◌, ◌≤◌, ◌<◌, ◌++◌, [], Some, OnOk, OnErr, IsErr, IsTrue, is_err, min, drop, take, length};
+//! Sources, sinks and links in memory.
+ghost use Rattle.std.specs.Prelude.{◌≡◌, ◌+◌, ◌-◌, ◌^◌, ◌≤◌, ◌<◌, ◌++◌, [], Some, OnOk, OnErr, IsErr, IsTrue, is_err};
+ghost use Rattle.std.specs.Prelude.{min, drop, take, length};
 ghost use Rattle.std.specs.Io.{ReadsAtMost};
 ghost use Rattle.std.specs.Io.KnownBytes.{ReadConsumes};
 ghost use Rattle.sx_base.specs.Causes.{HasCause};
-ghost use Rattle.sx_base.specs.FailingCalls.{FailsAsListed, FailsWhereListed, is_next_listed, most_calls};
+ghost use Rattle.sx_base.specs.Calls.{FailsAsListed, FailsWhereListed, is_next_listed, most_calls};
 
 use crate::calls::Calls;
 use crate::fault::Failed;
@@ -41,7 +43,7 @@ impl MemSource {
 
 impl Source for MemSource {
     ghost use Rattle.std.specs.Prelude.{Some, drop};
-    ghost use Rattle.sx_base.specs.FailingCalls.{FailsAsListed};
+    ghost use Rattle.sx_base.specs.Calls.{FailsAsListed};
 
     ghost left = { λ s. Some (drop s.at s.bytes.items) };
 
@@ -52,7 +54,8 @@ impl Source for MemSource {
     fn read(&mut self, into: &mut [u8]) -> Result<usize, Failed>
         requires { 0 < length into.old }
         ensures bound { ReadsAtMost result into.new }
-        ensures bytes { ReadConsumes (⟦<MemSource as Source>⟧.left self.old) (⟦<MemSource as Source>⟧.left self.new) result into.new }
+        ensures bytes { ReadConsumes (⟦<MemSource as Source>⟧.left self.old)
+            (⟦<MemSource as Source>⟧.left self.new) result into.new }
         ensures cause { HasCause self.old.calls.faults self.new.calls.faults result }
         ensures step { FailsAsListed self.old.calls self.new.calls }
         ensures fails { is_err result ≡ is_next_listed self.old.calls }
@@ -71,7 +74,7 @@ impl Source for MemSource {
         self.calls.faults()
     }
 
-    ghost use Rattle.sx_base.specs.FailingCalls.{as_listed_none, as_listed_more};
+    ghost use Rattle.sx_base.specs.Calls.{as_listed_none, as_listed_more};
 
     ghost reads_none = { λ a. as_listed_none a.calls };
 
@@ -108,7 +111,7 @@ impl MemSink {
 
 impl Sink for MemSink {
     ghost use Rattle.std.specs.Prelude.{◌≡◌};
-    ghost use Rattle.sx_base.specs.FailingCalls.{FailsWhereListed};
+    ghost use Rattle.sx_base.specs.Calls.{FailsWhereListed};
 
     ghost wrote = { λ s bytes. s.bytes.items ≡ bytes };
 
@@ -138,7 +141,7 @@ impl Sink for MemSink {
         self.calls.faults()
     }
 
-    ghost use Rattle.sx_base.specs.FailingCalls.{where_listed_none, where_listed_more};
+    ghost use Rattle.sx_base.specs.Calls.{where_listed_none, where_listed_more};
 
     ghost puts_none = { λ a. where_listed_none a.calls };
 
@@ -163,8 +166,11 @@ fn copy_front(bytes: &[u8], at: usize, most: usize, into: &mut [u8]) -> usize
 /// A link in memory: a source, a sink and a peer's address.
 #[derive(Drop)]
 pub struct MemLink {
+    /// The bytes that come in.
     pub source: MemSource,
+    /// The bytes that went out.
     pub sink: MemSink,
+    /// The peer's IPv4 address as a number.
     pub peer: u32,
 }
 
@@ -184,11 +190,12 @@ impl Source for MemLink {
     }
 
     ghost use Rattle.std.proofs.Common.{refl, ◌∙◌};
-    ghost use Rattle.sx_base.specs.FailingCalls.{as_listed_none, as_listed_more};
+    ghost use Rattle.sx_base.specs.Calls.{as_listed_none, as_listed_more};
 
     ghost reads_none = { λ a. (as_listed_none a.source.calls, refl, refl) };
 
-    ghost reads_more = { λ a b c h k. (as_listed_more a.source.calls b.source.calls c.source.calls h.0 k.0, k.1 ∙ h.1, k.2 ∙ h.2) };
+    ghost reads_more = { λ a b c h k.
+        (as_listed_more a.source.calls b.source.calls c.source.calls h.0 k.0, k.1 ∙ h.1, k.2 ∙ h.2) };
 }
 
 impl Sink for MemLink {
@@ -207,35 +214,50 @@ impl Sink for MemLink {
     }
 
     ghost use Rattle.std.proofs.Common.{refl, ◌∙◌};
-    ghost use Rattle.sx_base.specs.FailingCalls.{where_listed_none, where_listed_more};
+    ghost use Rattle.sx_base.specs.Calls.{where_listed_none, where_listed_more};
 
     ghost puts_none = { λ a. (where_listed_none a.sink.calls, refl, refl) };
 
-    ghost puts_more = { λ a b c h k. (where_listed_more a.sink.calls b.sink.calls c.sink.calls h.0 k.0, k.1 ∙ h.1, k.2 ∙ h.2) };
+    ghost puts_more = { λ a b c h k.
+        (where_listed_more a.sink.calls b.sink.calls c.sink.calls h.0 k.0, k.1 ∙ h.1, k.2 ∙ h.2) };
 }
 
 impl Link for MemLink {
     ghost peer_of = { λ l. l.peer };
 
-    ghost calls = { λ a b. FailsAsListed a.source.calls b.source.calls × FailsWhereListed a.sink.calls b.sink.calls × (b.peer ≡ a.peer) };
+    ghost calls = { λ a b. FailsAsListed a.source.calls b.source.calls × FailsWhereListed a.sink.calls b.sink.calls
+        × (b.peer ≡ a.peer) };
 
     fn peer(&self) -> u32 {
         self.peer
     }
 
     ghost use Rattle.std.proofs.Common.{refl, ◌∙◌, ap};
-    ghost use Rattle.sx_base.specs.FailingCalls.{as_listed_none, as_listed_more, as_listed_same, where_listed_none, where_listed_more, where_listed_same};
-    ghost use Rattle.sx_base.specs.Links.{same_written};
+    ghost use Rattle.sx_base.specs.Calls.{as_listed_none, as_listed_more, as_listed_same, where_listed_none};
+    ghost use Rattle.sx_base.specs.Calls.{where_listed_more, where_listed_same};
+    ghost use Rattle.sx_base.specs.Link.{same_written};
 
     ghost calls_none = { λ a. (as_listed_none a.source.calls, where_listed_none a.sink.calls, refl) };
 
-    ghost calls_more = { λ a b c h k. (as_listed_more a.source.calls b.source.calls c.source.calls h.0 k.0, where_listed_more a.sink.calls b.sink.calls c.sink.calls h.1 k.1, k.2 ∙ h.2) };
+    ghost calls_more = { λ a b c h k. (
+      as_listed_more a.source.calls b.source.calls c.source.calls h.0 k.0,
+      where_listed_more a.sink.calls b.sink.calls c.sink.calls h.1 k.1,
+      k.2 ∙ h.2,
+    ) };
 
     ghost read_calls = { λ a b h. (h.0, where_listed_same a.sink.calls b.sink.calls (ap (λ s. s.calls) h.1), h.2) };
 
     ghost put_calls = { λ a b h. (as_listed_same a.source.calls b.source.calls (ap (λ s. s.calls) h.1), h.0, h.2) };
 
-    ghost read_keeps = { λ a b h. record { written = same_written ⟦<MemSink as Sink>⟧.wrote a.sink b.sink h.1; faults = ap ⟦<MemSink as Sink>⟧.write_count h.1; peer = h.2 } };
+    ghost read_keeps = { λ a b h. record {
+      written = same_written ⟦<MemSink as Sink>⟧.wrote a.sink b.sink h.1;
+      faults = ap ⟦<MemSink as Sink>⟧.write_count h.1;
+      peer = h.2;
+    } };
 
-    ghost put_keeps = { λ a b h. record { rest = ap ⟦<MemSource as Source>⟧.left h.1; faults = ap ⟦<MemSource as Source>⟧.read_count h.1; peer = h.2 } };
+    ghost put_keeps = { λ a b h. record {
+      rest = ap ⟦<MemSource as Source>⟧.left h.1;
+      faults = ap ⟦<MemSource as Source>⟧.read_count h.1;
+      peer = h.2;
+    } };
 }

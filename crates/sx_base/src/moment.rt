@@ -1,5 +1,6 @@
+//! The text of a moment.
 ghost use Rattle.std.specs.Prelude.{◌≡◌, ◌≤◌, ◌+◌, ◌%◌, pos};
-ghost use Rattle.sx_base.specs.MomentTexts.{greatest_written, fields_text, IsCivilTime, IsMomentText};
+ghost use Rattle.sx_base.specs.Moment.{greatest_written, fields_text, IsCivilTime, IsMomentText};
 
 use jiff::Timestamp;
 use jiff::civil::DateTime;
@@ -12,7 +13,7 @@ fn digit(number: u32) -> u8
 }
 
 /// The text of a civil time of which these are the fields.
-#[tactic(auto, unfolding(crate::specs::MomentTexts::fields_text))]
+#[tactic(auto, unfolding(crate::specs::Moment::fields_text))]
 fn print_fields(
     year: u32,
     month: u32,

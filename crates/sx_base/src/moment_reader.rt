@@ -1,9 +1,14 @@
-ghost use Rattle.std.specs.Prelude.{◌≡◌, ◌<◌, ◌≤◌, ◌*◌, ℕ, List, Result, Ok, pos};
+//! Reading the text of a moment, with the place of its fault.
+ghost use Rattle.std.specs.Prelude.{◌≡◌, ◌<◌, ◌≤◌, ◌*◌, ◌-◌, ℕ, List, Result, Ok, IfOk, IfErr, length, pos};
+ghost use Rattle.sx_text.specs.Texts.{IsLongest};
 ghost use Rattle.jiff.specs.Types.{DateTime as PlainTime};
 ghost use Rattle.sx_text.specs.Given.{Reads};
-ghost use Rattle.sx_base.specs.MomentTexts.{Day, Clock, Fields, greatest_written, fields_of, IsCivilTime, IsMoment, IsMomentText};
-ghost use Rattle.sx_base.specs.MomentFields.{is_last_day, month_most, day_most, hour_most, minute_most, second_most, ticks_most, IsFields, IsCivil, Shows, day_at, clock_at, ticks_at, fields_at};
-ghost use Rattle.sx_base.specs.MomentsRead.{ReadsMoment};
+ghost use Rattle.sx_base.specs.Moment.{Day, TimeOfDay, Fields, greatest_written, fields_of, IsCivilTime, IsMoment};
+ghost use Rattle.sx_base.specs.Moment.{IsMomentText, moment_text};
+ghost use Rattle.sx_base.specs.MomentReader.{is_last_day, month_most, day_most, hour_most, minute_most, second_most};
+ghost use Rattle.sx_base.specs.MomentReader.{ticks_most, IsFields, IsCivil, Shows, day_at, time_at, ticks_at};
+ghost use Rattle.sx_base.specs.MomentReader.{fields_at, BeginsWithMoment};
+ghost use Rattle.sx_base.specs.MomentReader.{ReadsMoment};
 
 use jiff::civil::DateTime;
 use jiff::tz::Offset;
@@ -13,6 +18,7 @@ use sx_text::{Unread, digits_behind, literal};
 /// The bytes are no text of a moment: `at` is the length of their longest prefix that begins one.
 #[derive(Clone, Copy, Debug, PartialEq, Eq)]
 pub struct BadMoment {
+    /// How many bytes the longest prefix has, at most 28.
     pub at: u64,
 }
 
@@ -20,10 +26,10 @@ pub struct BadMoment {
 type Day = (u64, (u64, u64));
 
 /// Hour, minute and second.
-type Clock = (u64, (u64, u64));
+type TimeOfDay = (u64, (u64, u64));
 
 /// A day, a time of the day, and the ticks of its second.
-type Fields = (Day, (Clock, u64));
+type Fields = (Day, (TimeOfDay, u64));
 
 /// Whether it is the day of the greatest moment.
 fn is_last(day: Day) -> bool
@@ -32,14 +38,15 @@ fn is_last(day: Day) -> bool
     day.0 == 9892 && (day.1.0 == 3 && day.1.1 == 8)
 }
 
-#[tactic(auto, unfolding(crate::specs::MomentFields::month_most))]
+/// The greatest month of a year.
+#[tactic(auto, unfolding(crate::specs::MomentReader::month_most))]
 fn greatest_month(year: u64) -> u64
     ensures { result ≡ month_most year }
 {
     if year == 9892 { 3 } else { 12 }
 }
 
-#[tactic(auto, unfolding(crate::specs::MomentFields::day_most))]
+#[tactic(auto, unfolding(crate::specs::MomentReader::day_most))]
 fn greatest_day(year: u64, month: u64) -> u64
     requires year { year ≤ 9892 }
     requires month { month ≤ 99 }
@@ -52,21 +59,21 @@ fn greatest_day(year: u64, month: u64) -> u64
     }
 }
 
-#[tactic(auto, unfolding(crate::specs::MomentFields::hour_most))]
+#[tactic(auto, unfolding(crate::specs::MomentReader::hour_most))]
 fn greatest_hour(day: Day) -> u64
     ensures { result ≡ hour_most day }
 {
     if is_last(day) { 12 } else { 23 }
 }
 
-#[tactic(auto, unfolding(crate::specs::MomentFields::minute_most))]
+#[tactic(auto, unfolding(crate::specs::MomentReader::minute_most))]
 fn greatest_minute(day: Day, hour: u64) -> u64
     ensures { result ≡ minute_most day hour }
 {
     if is_last(day) && hour == 12 { 33 } else { 59 }
 }
 
-#[tactic(auto, unfolding(crate::specs::MomentFields::second_most))]
+#[tactic(auto, unfolding(crate::specs::MomentReader::second_most))]
 fn greatest_second(day: Day, hour: u64, minute: u64) -> u64
     ensures { result ≡ second_most day hour minute }
 {
@@ -77,8 +84,8 @@ fn greatest_second(day: Day, hour: u64, minute: u64) -> u64
     }
 }
 
-#[tactic(auto, unfolding(crate::specs::MomentFields::ticks_most))]
-fn greatest_ticks(day: Day, clock: Clock) -> u64
+#[tactic(auto, unfolding(crate::specs::MomentReader::ticks_most))]
+fn greatest_ticks(day: Day, clock: TimeOfDay) -> u64
     ensures { result ≡ ticks_most day clock }
 {
     if is_last(day) && (clock.0 == 12 && (clock.1.0 == 33 && clock.1.1 == 49)) {
@@ -88,7 +95,7 @@ fn greatest_ticks(day: Day, clock: Clock) -> u64
     }
 }
 
-#[tactic(auto, unfolding(crate::specs::MomentFields::day_at), using(crate::proofs::MomentReading::month_most_is, crate::proofs::MomentReading::day_most_is))]
+#[tactic(auto, unfolding(crate::specs::MomentReader::day_at), using(crate::proofs::MomentReading::month_most_is, crate::proofs::MomentReading::day_most_is))]
 fn read_day(bytes: &[u8]) -> Result<(Day, &[u8]), Unread>
     ensures { Reads (λ x. (x.0, x.1.now)) result (day_at bytes.now) }
 {
@@ -98,9 +105,9 @@ fn read_day(bytes: &[u8]) -> Result<(Day, &[u8]), Unread>
     Ok(((year, (month, day)), rest))
 }
 
-#[tactic(auto, unfolding(crate::specs::MomentFields::clock_at), using(crate::proofs::MomentReading::hour_most_is, crate::proofs::MomentReading::minute_most_is, crate::proofs::MomentReading::second_most_is))]
-fn read_clock(bytes: &[u8], day: Day) -> Result<(Clock, &[u8]), Unread>
-    ensures { Reads (λ x. (x.0, x.1.now)) result (clock_at day bytes.now) }
+#[tactic(auto, unfolding(crate::specs::MomentReader::time_at), using(crate::proofs::MomentReading::hour_most_is, crate::proofs::MomentReading::minute_most_is, crate::proofs::MomentReading::second_most_is))]
+fn read_time(bytes: &[u8], day: Day) -> Result<(TimeOfDay, &[u8]), Unread>
+    ensures { Reads (λ x. (x.0, x.1.now)) result (time_at day bytes.now) }
 {
     let (hour, rest) = digits_behind(bytes, b"T", 1, 0, greatest_hour(day))?;
     let (minute, rest) = digits_behind(rest, b":", 1, 0, greatest_minute(day, hour))?;
@@ -108,8 +115,8 @@ fn read_clock(bytes: &[u8], day: Day) -> Result<(Clock, &[u8]), Unread>
     Ok(((hour, (minute, second)), rest))
 }
 
-#[tactic(auto, unfolding(crate::specs::MomentFields::ticks_at), using(crate::proofs::MomentReading::ticks_most_is))]
-fn read_ticks(bytes: &[u8], day: Day, clock: Clock) -> Result<(u64, &[u8]), Unread>
+#[tactic(auto, unfolding(crate::specs::MomentReader::ticks_at), using(crate::proofs::MomentReading::ticks_most_is))]
+fn read_ticks(bytes: &[u8], day: Day, clock: TimeOfDay) -> Result<(u64, &[u8]), Unread>
     ensures { Reads (λ x. (x.0, x.1.now)) result (ticks_at day clock bytes.now) }
 {
     let (ticks, rest) = digits_behind(bytes, b".", 6, 0, greatest_ticks(day, clock))?;
@@ -117,12 +124,12 @@ fn read_ticks(bytes: &[u8], day: Day, clock: Clock) -> Result<(u64, &[u8]), Unre
     Ok((ticks, rest))
 }
 
-#[tactic(auto, unfolding(crate::specs::MomentFields::fields_at))]
+#[tactic(auto, unfolding(crate::specs::MomentReader::fields_at))]
 fn read_fields(bytes: &[u8]) -> Result<(Fields, &[u8]), Unread>
     ensures { Reads (λ x. (x.0, x.1.now)) result (fields_at bytes.now) }
 {
     let (day, rest) = read_day(bytes)?;
-    let (clock, rest) = read_clock(rest, day)?;
+    let (clock, rest) = read_time(rest, day)?;
     let (ticks, rest) = read_ticks(rest, day, clock)?;
     Ok(((day, (clock, ticks)), rest))
 }
@@ -199,8 +206,8 @@ fn moment_with(fields: Fields) -> u64
     ))
 }
 
-/// The moment of which this is the text: `YYYY-MM-DDThh:mm:ss.fffffffZ`, 28 bytes, in UTC, from 1970-01-01T00:00:00.0000000Z to
-/// 9892-03-08T12:33:49.4967295Z. Any other bytes are `BadMoment`.
+/// The moment of which this is the text: `YYYY-MM-DDThh:mm:ss.fffffffZ`, 28 bytes, in UTC, from
+/// 1970-01-01T00:00:00.0000000Z to 9892-03-08T12:33:49.4967295Z. Any other bytes are `BadMoment`.
 pub fn read_moment(text: &[u8]) -> Result<u64, BadMoment>
     ensures { ReadsMoment text.now result }
 {
@@ -215,7 +222,23 @@ pub fn read_moment(text: &[u8]) -> Result<u64, BadMoment>
     }
 }
 
+/// Takes the text of a moment, as `read_moment` reads it, from the front of the bytes, and gives the moment and the
+/// bytes
+/// behind the text. `Unread` tells how many bytes are left behind the longest prefix that begins the text of a moment.
+pub fn take_moment(bytes: &[u8]) -> Result<(u64, &[u8]), Unread>
+    ensures moment { IfOk result (λ x. BeginsWithMoment bytes.now x.0 x.1.now) }
+    ensures within { IfErr result (λ unread. unread.left ≤ length bytes.now) }
+    ensures longest { IfErr result
+        (λ unread. IsLongest moment_text IsMoment bytes.now (length bytes.now - unread.left)) }
+{
+    match read_fields(bytes) {
+        Ok((fields, rest)) => Ok((moment_with(fields), rest)),
+        Err(unread) => Err(unread),
+    }
+}
+
 /// The law of moments: the text of a moment is read as that moment. It does nothing.
 pub fn printed_moments_are_read_back()
-    ensures { (text : List ℕ) (at : ℕ) (read : Result ℕ BadMoment) → at ≤ greatest_written → IsMomentText text at → ReadsMoment text read → read ≡ Ok at }
+    ensures { (text : List ℕ) (at : ℕ) (read : Result ℕ BadMoment) → at ≤ greatest_written → IsMomentText text at
+        → ReadsMoment text read → read ≡ Ok at }
 {}

@@ -1,8 +1,10 @@
+//! Sources of random words, and one that counts.
 ghost use Rattle.std.specs.Prelude.{◌≡◌, ◌+◌, ◌%◌, ◌^◌, ℕ};
 
 /// A source of random words. It can't fail.
 pub trait Random: Sized + Send + Drop {
-    /// One step: the source before it, the word that it told, the source after it. The system's source allows every step.
+    /// One step: the source before it, the word that it told, the source after it. The system's source allows every
+    /// step.
     ghost draws: { Self → ℕ → Self → Type 0 };
 
     /// The next word.
@@ -17,6 +19,7 @@ pub trait Random: Sized + Send + Drop {
 /// A source that tells `at`, `at + 1` and so on, and goes on with 0 behind the greatest word.
 #[derive(Clone, Copy, Debug, PartialEq, Eq)]
 pub struct StepWords {
+    /// The next word.
     pub at: u64,
 }
 

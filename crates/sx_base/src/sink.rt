@@ -1,13 +1,15 @@
+//! Where bytes go out.
 ghost use Rattle.std.specs.Prelude.{◌≡◌, ℕ, List, OnOk, OnErr};
 ghost use Rattle.sx_base.specs.Causes.{HasCause};
-ghost use Rattle.sx_base.specs.Told.{Writes, WritesPrefix};
+ghost use Rattle.sx_base.specs.Sink.{Writes, WritesPrefix};
 
 use crate::fault::Failed;
 
 /// Bytes that go out.
 ///
-/// What a sink tells of the bytes written to it is a relation: exactly those where it keeps them, as one in memory does;
-/// any bytes where it keeps none, as a socket; those with a digest where it keeps the digest alone.
+/// What a sink tells of the bytes written to it is a relation: exactly those where it keeps them, as one in memory
+/// does; any bytes where it keeps none, as a socket; those with a digest where it keeps the digest alone.
+///
 /// It counts its faults: the count never falls, and `Failed` comes only where it rose.
 pub trait Sink {
     /// These bytes may have been written.

@@ -1,5 +1,5 @@
 pub mod Wholes
 pub mod Lives
 pub mod Others
-pub mod Entered
+pub mod Appended
 pub mod Held

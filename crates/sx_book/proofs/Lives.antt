@@ -3,25 +3,25 @@ use Rattle.std.proofs.Common.{ℕ, ◌+◌, ◌≡◌, ◌≢◌, ◌==◌, Bool
 use Rattle.std.specs.List.{find, AllByRecursion}
 use Rattle.std.proofs.lemmas.Bool.Decides.{nat_tests}
 use Rattle.sx_base.specs.Entries.{change}
-use Rattle.sx_call.specs.Limits.{Placed}
-use Rattle.sx_call.specs.declared.call.Call.{Call}
-use Rattle.sx_call.specs.declared.call.Call.TheVariants.{CreateShare, Start, End, SmbOpen, SmbClose, SmbRead, SmbWrite}
-use Rattle.sx_call.specs.declared.call.Entry.{Entry}
-use Rattle.sx_call.specs.declared.call.Noted.{Noted}
-use Rattle.sx_call.specs.declared.held.Live.{Live}
-use Rattle.sx_call.specs.declared.held.Open.{Open}
-use Rattle.sx_call.specs.declared.reply.Refusal.{Refusal}
-use Rattle.sx_guard.specs.declared.handle.Access.{Access}
-use Rattle.sx_guard.specs.declared.handle.Mode.{Mode}
-use Rattle.sx_tree.specs.declared.node.Found.{Found}
-use Rattle.sx_tree.specs.declared.node.Found.TheVariants as found
-use Rattle.sx_spec.specs.Account.{Account, empty, is_session, session_of, open_of, place_of}
-use Rattle.sx_spec.specs.FirstRefusal.{first}
-use Rattle.sx_spec.specs.History.{is_of_caller, is_in_session, IsHistory, IsHistoryFrom, moment_after, noted_at}
-use Rattle.sx_spec.specs.Step.{step, outcome, after, replay, changed, grant, opens_in, opens_at, made_and_opened, last_part, writes_at}
-use Rattle.sx_spec.specs.Whole.{IsWhole, IsLive}
-use Rattle.sx_spec.proofs.Histories.{after_more}
-use Rattle.sx_turn.specs.Places.{Each}
+use Rattle.sx_stage_call.specs.Limits.{Placed}
+use Rattle.sx_stage_call.specs.declared.call.Call.{Call}
+use Rattle.sx_stage_call.specs.declared.call.Call.TheVariants.{CreateShare, Start, End, SmbOpen, SmbClose, SmbRead}
+use Rattle.sx_stage_call.specs.declared.call.Call.TheVariants.{SmbWrite}
+use Rattle.sx_stage_call.specs.declared.call.Entry.{Entry}
+use Rattle.sx_stage_call.specs.declared.call.Noted.{Noted}
+use Rattle.sx_stage_call.specs.declared.held.Live.{Live}
+use Rattle.sx_stage_call.specs.declared.held.Open.{Open}
+use Rattle.sx_stage_call.specs.declared.reply.Refusal.{Refusal}
+use Rattle.sx_guard.specs.declared.access.Access.{Access}
+use Rattle.sx_guard.specs.declared.access.Mode.{Mode}
+use Rattle.sx_stage_tree.specs.declared.node.Found.{Found}
+use Rattle.sx_stage_tree.specs.declared.node.Found.TheVariants as found
+use Rattle.sx_stage_spec.specs.Account.{Account, empty, is_session, session_of, open_of, place_of}
+use Rattle.sx_stage_spec.specs.FirstRefusal.{first_refusal}
+use Rattle.sx_stage_spec.specs.History.{is_of_caller, is_in_session, IsHistory, IsHistoryFrom, moment_after, noted_at}
+use Rattle.sx_stage_spec.specs.Step.{step, outcome, replay_from, replay, after_call, grant, after_open, after_open_at, with_file_and_handle, last_part, after_write}
+use Rattle.sx_stage_spec.specs.Whole.{IsWhole, IsLiveSession}
+use Rattle.sx_stage_spec.proofs.Histories.{after_more}
 use Rattle.sx_turn.proofs.Lists.{each_append, each_map, each_snoc}
 use Rattle.sx_book.specs.Passes.{PassView, with_noted, GrowsByOthers, IsNoEndOf, HoldsIn, StandsIn}
 
@@ -36,20 +36,20 @@ granted_caller who s p (l ∷ ls) =
       ]
     ]
 
-made_caller : (who q : ℕ) (a : Account) (at s share parent : ℕ) (x : Access) (m : Mode) (name : Option (List ℕ)) → is_of_caller who (session_of (made_and_opened a at s share parent x m name) q) ≡ is_of_caller who (session_of a q)
+made_caller : (who q : ℕ) (a : Account) (at s share parent : ℕ) (x : Access) (m : Mode) (name : Option (List ℕ)) → is_of_caller who (session_of (with_file_and_handle a at s share parent x m name) q) ≡ is_of_caller who (session_of a q)
 made_caller who q a at s share parent x m None = refl
 made_caller who q a at s share parent x m (Some name) = granted_caller who q (is_session s) a.sessions
 
-opens_caller : (who q : ℕ) (a : Account) (at s : ℕ) (path : List (List ℕ)) (x : Access) (m : Mode) (n : ℕ) (f : Found) → is_of_caller who (session_of (opens_at a at s path x m n f) q) ≡ is_of_caller who (session_of a q)
+opens_caller : (who q : ℕ) (a : Account) (at s : ℕ) (path : List (List ℕ)) (x : Access) (m : Mode) (n : ℕ) (f : Found) → is_of_caller who (session_of (after_open_at a at s path x m n f) q) ≡ is_of_caller who (session_of a q)
 opens_caller who q a at s path x m n (found.Node id) = granted_caller who q (is_session s) a.sessions
 opens_caller who q a at s path x m n (found.Missing parent) = made_caller who q a at s n parent x m (last_part path)
 opens_caller who q a at s path x m n (found.NoParent parts) = refl
 
-place_caller : (who q : ℕ) (a : Account) (at s : ℕ) (path : List (List ℕ)) (x : Access) (m : Mode) (p : Option (ℕ × Found)) → is_of_caller who (session_of (opens_in a at s path x m p) q) ≡ is_of_caller who (session_of a q)
+place_caller : (who q : ℕ) (a : Account) (at s : ℕ) (path : List (List ℕ)) (x : Access) (m : Mode) (p : Option (ℕ × Found)) → is_of_caller who (session_of (after_open a at s path x m p) q) ≡ is_of_caller who (session_of a q)
 place_caller who q a at s path x m None = refl
 place_caller who q a at s path x m (Some p) = opens_caller who q a at s path x m p.0 p.1
 
-writes_caller : (who q : ℕ) (a : Account) (u : Placed) (o : Option Open) → is_of_caller who (session_of (writes_at a u o) q) ≡ is_of_caller who (session_of a q)
+writes_caller : (who q : ℕ) (a : Account) (u : Placed) (o : Option Open) → is_of_caller who (session_of (after_write a u o) q) ≡ is_of_caller who (session_of a q)
 writes_caller who q a u None = refl
 writes_caller who q a u (Some o) = refl
 
@@ -75,7 +75,7 @@ found_without who q s (l ∷ ls) ne =
     ] refl
 
 -- a change that is no End of the session leaves it live
-changed_lives : (who q : ℕ) (a : Account) (w s at : ℕ) (call : Call) → (call ≡ End → s ≢ q) → is_of_caller who (session_of a q) ≡ true → is_of_caller who (session_of (changed a w s at call) q) ≡ true
+changed_lives : (who q : ℕ) (a : Account) (w s at : ℕ) (call : Call) → (call ≡ End → s ≢ q) → is_of_caller who (session_of a q) ≡ true → is_of_caller who (session_of (after_call a w s at call) q) ≡ true
 changed_lives who q a w s at (CreateShare share quota) other live = live
 changed_lives who q a w s at (Start peer) other live = found_among who q a.sessions _ live
 changed_lives who q a w s at End other live = found_without who q s a.sessions (other refl) ∙ live
@@ -90,7 +90,7 @@ outcome_lives who q a w s at call (Some r) other live = live
 
 -- an entry that is no End of the session leaves it live
 pub step_lives : (who q : ℕ) (a : Account) (e : Entry) → (e.call ≡ End → e.session ≢ q) → is_of_caller who (session_of a q) ≡ true → is_of_caller who (session_of (step a e).0 q) ≡ true
-step_lives who q a e other live = outcome_lives who q a e.who e.session e.at e.call (first a e.session e.call) other live
+step_lives who q a e other live = outcome_lives who q a e.who e.session e.at e.call (first_refusal a e.session e.call) other live
 
 -- a live session has one caller
 one_caller : (who w : ℕ) (o : Option Live) → is_of_caller who o ≡ true → is_of_caller w o ≡ true → who ≡ w
@@ -108,15 +108,15 @@ ends_own a w s (SmbRead index from count) h e = h
 ends_own a w s (SmbWrite index update) h e = h
 
 -- entries among which the caller has made no End of its session leave it live
-since_live : (who q : ℕ) (a : Account) (last limit : ℕ) (more : List Noted) → IsHistoryFrom a last limit more → Each (λ n. IsNoEndOf who q n.entry) more → is_of_caller who (session_of a q) ≡ true
-    → is_of_caller who (session_of (after a more) q) ≡ true
+since_live : (who q : ℕ) (a : Account) (last limit : ℕ) (more : List Noted) → IsHistoryFrom a last limit more → AllByRecursion (λ n. IsNoEndOf who q n.entry) more → is_of_caller who (session_of a q) ≡ true
+    → is_of_caller who (session_of (replay_from a more) q) ≡ true
 since_live who q a last limit [] h kept live = live
 since_live who q a last limit (n ∷ ns) h kept live =
     since_live who q (step a n.entry).0 n.entry.at limit ns h.3 kept.1
     (step_lives who q a n.entry (λ ends same. kept.0 ends (one_caller n.entry.who who (session_of a q) (subst (λ (s : ℕ). is_of_caller n.entry.who (session_of a s) ≡ true) same (ends_own a n.entry.who n.entry.session n.entry.call h.0.session ends)) live) same) live)
 
 -- the rest of a history is one
-rest_of : (a : Account) (last limit : ℕ) (seen more : List Noted) → IsHistoryFrom a last limit (seen ++ more) → IsHistoryFrom (after a seen) (moment_after last seen) limit more
+rest_of : (a : Account) (last limit : ℕ) (seen more : List Noted) → IsHistoryFrom a last limit (seen ++ more) → IsHistoryFrom (replay_from a seen) (moment_after last seen) limit more
 rest_of a last limit [] more h = h
 rest_of a last limit (n ∷ ns) more h = rest_of (step a n.entry).0 n.entry.at limit ns more h.3
 
@@ -128,7 +128,7 @@ append_none : (xs : List Noted) → xs ++ [] ≡ xs
 append_none [] = refl
 append_none (x ∷ xs) = ap (λ (l : List Noted). x ∷ l) (append_none xs)
 
-after_both : (a : Account) (seen more : List Noted) → after a (seen ++ more) ≡ after (after a seen) more
+after_both : (a : Account) (seen more : List Noted) → replay_from a (seen ++ more) ≡ replay_from (replay_from a seen) more
 after_both a [] more = refl
 after_both a (n ∷ ns) more = after_both (step a n.entry).0 ns more
 
@@ -174,20 +174,20 @@ is_caller who s peer =
     let me : (who == who) ≡ true = grind (arith, nat_tests) in
     rw (same, me) refl
 
-last_found : (who peer started came : ℕ) (ls : List Live) → AllByRecursion (IsLive started came) ls
+last_found : (who peer started entry_count : ℕ) (ls : List Live) → AllByRecursion (IsLiveSession started entry_count) ls
     → is_of_caller who (find (is_session (started + 1)) (ls ++ record { session = started + 1; who = who; peer = peer; granted = 0 } ∷ [])) ≡ true
-last_found who peer started came [] all = is_caller who (started + 1) peer
-last_found who peer started came (l ∷ ls) all =
+last_found who peer started entry_count [] all = is_caller who (started + 1) peer
+last_found who peer started entry_count (l ∷ ls) all =
     let le = all.0.started in
     let other : (l.session == started + 1) ≡ false = grind (arith, nat_tests) in
-    rw other (last_found who peer started came ls all.1)
+    rw other (last_found who peer started entry_count ls all.1)
 
 -- a session that was started is live, and its caller's
 started_lives : (who peer session at fresh : ℕ) (log : List Noted) → IsWhole (replay log)
     → is_of_caller who (session_of (replay (with_noted log (record { who = who; session = session; at = at; fresh = fresh; call = Start peer }))) ((replay log).started + 1)) ≡ true
 started_lives who peer session at fresh log w =
     ap (λ (a : Account). is_of_caller who (session_of a ((replay log).started + 1))) (after_more empty log _)
-    ∙ last_found who peer (replay log).started (replay log).came (replay log).sessions w.live
+    ∙ last_found who peer (replay log).started (replay log).entry_count (replay log).sessions w.live
 
 -- a session that was started is held
 pub started_held : (who peer session at fresh : ℕ) (log : List Noted) → IsWhole (replay log)

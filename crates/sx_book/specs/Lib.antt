@@ -1,4 +1,4 @@
 pub mod Book
-pub mod Opens
+pub mod Opening
 pub mod Passes
 pub mod State

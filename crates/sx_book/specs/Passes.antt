@@ -1,21 +1,24 @@
 -- What contracts see of a pass, and what the office's calls tell of it.
-use Rattle.std.specs.Prelude.{ℕ, ◌+◌, ◌-◌, ◌<◌, ◌≤◌, ◌≡◌, ◌≢◌, if◌then◌else◌, true, List, [], ◌∷◌, ◌++◌, length, max, take, drop, Option, Some, None}
-use Rattle.sx_call.specs.declared.call.Call.{Call}
-use Rattle.sx_call.specs.declared.call.Call.TheVariants.{CreateShare, Start, End, SmbOpen, SmbClose, SmbRead, SmbWrite}
-use Rattle.sx_call.specs.declared.call.Entry.{Entry}
-use Rattle.sx_call.specs.declared.call.Noted.{Noted}
-use Rattle.sx_call.specs.declared.reply.Stop.{Stop}
-use Rattle.sx_call.specs.declared.reply.Stop.TheVariants.{HistoryFull}
-use Rattle.sx_spec.specs.Account.{session_of}
-use Rattle.sx_spec.specs.History.{IsHistory, is_of_caller, draws_none, noted_at, wants, last_moment}
-use Rattle.sx_spec.specs.Step.{step, replay}
-use Rattle.sx_spec.specs.Whole.{IsWhole}
-use Rattle.sx_turn.specs.Places.{Each, places, times, once_below, longer}
+use Rattle.std.specs.Prelude.{ℕ, ◌+◌, ◌-◌, ◌<◌, ◌≤◌, ◌≡◌, ◌≢◌, if◌then◌else◌, true, List, [], ◌∷◌, ◌++◌, length, max}
+use Rattle.std.specs.Prelude.{take, drop, Option, Some, None}
+use Rattle.std.specs.List.{AllByRecursion}
+use Rattle.sx_stage_call.specs.declared.call.Call.{Call}
+use Rattle.sx_stage_call.specs.declared.call.Call.TheVariants.{CreateShare, Start, End, SmbOpen, SmbClose, SmbRead}
+use Rattle.sx_stage_call.specs.declared.call.Call.TheVariants.{SmbWrite}
+use Rattle.sx_stage_call.specs.declared.call.Entry.{Entry}
+use Rattle.sx_stage_call.specs.declared.call.Noted.{Noted}
+use Rattle.sx_stage_call.specs.declared.reply.Stop.{Stop}
+use Rattle.sx_stage_call.specs.declared.reply.Stop.TheVariants.{HistoryFull}
+use Rattle.sx_stage_spec.specs.Account.{session_of}
+use Rattle.sx_stage_spec.specs.History.{IsHistory, is_of_caller, draws_none, noted_at, wants, last_moment}
+use Rattle.sx_stage_spec.specs.Step.{step, replay}
+use Rattle.sx_stage_spec.specs.Whole.{IsWhole}
+use Rattle.sx_turn.specs.Places.{places, times, once_below, longer}
 use Rattle.sx_turn.specs.Seats.{TableId, SeatView}
 use Rattle.sx_book.specs.declared.pass.Receipt.{Receipt}
 
--- a pass: its office and that office's limit, its number, the entries that it has seen, the places of its own entries there, the numbers and
--- places of the passes that met into it, and how many numbers it knows to have been given out
+-- a pass: its office and that office's limit, its number, the entries that it has seen, the places of its own entries
+-- there, the numbers and places of the passes that met into it, and how many numbers it knows to have been given out
 pub record PassView : Type 0 where
   pub office : TableId
   pub limit : ℕ
@@ -25,6 +28,7 @@ pub record PassView : Type 0 where
   pub ended : List (ℕ × List ℕ)
   pub known : ℕ
 
+-- the caller of an entry
 abbrev pub caller_of : Noted → ℕ
 caller_of n = n.entry.who
 
@@ -42,7 +46,8 @@ pass_view s = record {
 
 -- the list is what was seen, then entries of others than this caller
 abbrev pub GrowsByOthers : ℕ → List Noted → List Noted → Type 0
-GrowsByOthers number seen log = (more : List Noted) × (log ≡ seen ++ more) × Each (λ n. n.entry.who ≢ number) more
+GrowsByOthers number seen log =
+    (more : List Noted) × (log ≡ seen ++ more) × AllByRecursion (λ n. n.entry.who ≢ number) more
 
 -- the pass has seen more entries of others, and is else as before
 abbrev pub SawMore : PassView → PassView → Type 0
@@ -58,7 +63,8 @@ fresh_for call fresh = if draws_none call then 0 else fresh
 
 -- the entry of a call behind this list
 abbrev pub entry_behind : List Noted → ℕ → ℕ → ℕ → ℕ → Call → Entry
-entry_behind log who session now fresh call = record { who = who; session = session; at = later log now; fresh = fresh_for call fresh; call = call }
+entry_behind log who session now fresh call =
+    record { who = who; session = session; at = later log now; fresh = fresh_for call fresh; call = call }
 
 -- the list with one entry more
 abbrev pub with_noted : List Noted → Entry → List Noted
@@ -72,8 +78,9 @@ after_entry log e p = record p { seen = with_noted log e; mine = p.mine ++ (leng
 abbrev pub receipt_of : List Noted → Entry → Receipt
 receipt_of log e = record { place = length log + 1; at = e.at; reply = (step (replay log) e).1 }
 
--- the call took a place: the pass has seen what it had seen, then entries of others, then the own entry, behind a legal history in which the limit left a place
-pub record TookPlace (p : PassView) (session now fresh : ℕ) (call : Call) (r : Receipt) (q : PassView) : Type 0 where
+-- the call was appended: the pass has seen what it had seen, then entries of others, then the own entry, behind a
+-- legal history in which the limit left a place
+pub record Appends (p : PassView) (session now fresh : ℕ) (call : Call) (r : Receipt) (q : PassView) : Type 0 where
   pub log : List Noted
   pub others : GrowsByOthers p.number p.seen log
   pub legal : IsHistory p.limit log
@@ -82,7 +89,7 @@ pub record TookPlace (p : PassView) (session now fresh : ℕ) (call : Call) (r :
   pub pass : q ≡ after_entry log (entry_behind log p.number session now fresh call) p
   pub receipt : r ≡ receipt_of log (entry_behind log p.number session now fresh call)
 
--- the history had no place for the call: its numbers are those of what the pass has seen now
+-- the history was full for the call: its numbers are those of what the pass has seen now
 pub record IsFull (p : PassView) (call : Call) (entries sessions limit : ℕ) : Type 0 where
   pub full : p.limit < length p.seen + wants (replay p.seen) call
   pub within : entries + sessions ≤ limit
@@ -90,23 +97,26 @@ pub record IsFull (p : PassView) (call : Call) (entries sessions limit : ℕ) : 
   pub sessions_is : sessions ≡ length (replay p.seen).sessions
   pub limit_is : limit ≡ p.limit
 
--- the call took no place: the pass has seen more entries of others, and where the history was full its numbers are told
-pub record TookNone (p : PassView) (call : Call) (s : Stop) (q : PassView) : Type 0 where
+-- the call was not appended: the pass has seen more entries of others, and where the history was full its numbers are
+-- told
+pub record AppendsNone (p : PassView) (call : Call) (s : Stop) (q : PassView) : Type 0 where
   pub others : SawMore p q
   pub legal : IsHistory p.limit q.seen
-  pub cause : (entries sessions limit : ℕ) → s ≡ HistoryFull entries sessions limit → IsFull q call entries sessions limit
+  pub cause : (entries sessions limit : ℕ) → s ≡ HistoryFull entries sessions limit
+      → IsFull q call entries sessions limit
 
 -- the entry is no End of the session by this caller
 abbrev pub IsNoEndOf : ℕ → ℕ → Entry → Type 0
 IsNoEndOf who session e = e.call ≡ End → e.who ≡ who → e.session ≢ session
 
--- a caller that has seen these entries holds the session: after a beginning of them it was live and the caller's, and the caller has made no End of it since
+-- a caller that has seen these entries holds the session: after a beginning of them it was live and the caller's, and
+-- the caller has made no End of it since
 pub record HoldsIn (who : ℕ) (seen : List Noted) (session : ℕ) : Type 0 where
   pub begun : List Noted
   pub since : List Noted
   pub seen_is : seen ≡ begun ++ since
   pub live : is_of_caller who (session_of (replay begun) session) ≡ true
-  pub kept : Each (λ n. IsNoEndOf who session n.entry) since
+  pub kept : AllByRecursion (λ n. IsNoEndOf who session n.entry) since
 
 -- the pass holds the session
 abbrev pub HoldsSession : PassView → ℕ → Type 0
@@ -127,7 +137,8 @@ StandsIn p session (SmbClose index) = HoldsSession p session
 StandsIn p session (SmbRead index at count) = HoldsSession p session
 StandsIn p session (SmbWrite index update) = HoldsSession p session
 
--- what may be asked: a REST call without a session, a session's call in one that the pass holds, and neither Start nor End
+-- what may be asked: a REST call without a session, a session's call in one that the pass holds, and neither Start
+-- nor End
 abbrev pub MayAsk : PassView → Option ℕ → Call → Type 0
 MayAsk p session (CreateShare share quota) = session ≡ None
 MayAsk p session (Start peer) = ⊥
@@ -156,11 +167,20 @@ KeepsOtherSessions ended p q = (session : ℕ) → session ≢ ended → HoldsSe
 
 -- the first pass of an office: number 0, of a history without entries
 abbrev pub first_pass : TableId → ℕ → PassView
-first_pass office limit = record { office = office; limit = limit; number = 0; seen = []; mine = []; ended = []; known = 1 }
+first_pass office limit =
+    record { office = office; limit = limit; number = 0; seen = []; mine = []; ended = []; known = 1 }
 
 -- a pass with a new number and no entries, which has seen this list
 abbrev pub new_pass : PassView → ℕ → List Noted → PassView
-new_pass p number seen = record { office = p.office; limit = p.limit; number = number; seen = seen; mine = []; ended = []; known = number + 1 }
+new_pass p number seen = record {
+  office = p.office;
+  limit = p.limit;
+  number = number;
+  seen = seen;
+  mine = [];
+  ended = [];
+  known = number + 1;
+}
 
 -- the pass has seen this list, and knows of so many numbers
 abbrev pub pass_after_look : List Noted → ℕ → PassView → PassView
@@ -172,11 +192,11 @@ pass_pairs p = (p.number, p.mine) ∷ p.ended
 
 -- each of the pass's numbers has exactly the places in what the pass has seen that are kept for it
 abbrev pub HasExactPlaces : PassView → Type 0
-HasExactPlaces p = Each (λ pair. pair.1 ≡ places caller_of pair.0 p.seen) (pass_pairs p)
+HasExactPlaces p = AllByRecursion (λ pair. pair.1 ≡ places caller_of pair.0 p.seen) (pass_pairs p)
 
 -- each of the pass's numbers is below n
 abbrev pub NumbersBelow : ℕ → PassView → Type 0
-NumbersBelow n p = Each (λ pair. pair.0 < n) (pass_pairs p)
+NumbersBelow n p = AllByRecursion (λ pair. pair.0 < n) (pass_pairs p)
 
 -- no number stands twice among the pass's
 abbrev pub NumbersDiffer : PassView → Type 0
@@ -188,7 +208,7 @@ OwnsAllNumbers p = (n : ℕ) → times n (pass_pairs p) ≡ once_below n (length
 
 -- each entry that the pass has seen has one of its numbers
 abbrev pub OwnsEachSeen : PassView → Type 0
-OwnsEachSeen p = Each (λ n. times (caller_of n) (pass_pairs p) ≡ 1) p.seen
+OwnsEachSeen p = AllByRecursion (λ n. times (caller_of n) (pass_pairs p) ≡ 1) p.seen
 
 -- one pass has met another: it knows the longer of what both have seen, and has the other's numbers with their places
 abbrev pub after_meet : PassView → PassView → PassView

@@ -1,20 +1,22 @@
+//! The book: the history, with the state that it leaves.
 ghost use Rattle.std.specs.Prelude.{◌≡◌, ◌+◌, ◌<◌, ◌≤◌, ◌^◌, ◌++◌, ◌∷◌, [], IfOk, OnOk, OnErr, IsOk, length, ℕ, Err};
-ghost use Rattle.sx_base.specs.Moments.{greatest_moment};
-ghost use Rattle.sx_call.specs.declared.call.Call.TheVariants as Call;
-ghost use Rattle.sx_spec.specs.Account.{Account};
-ghost use Rattle.sx_spec.specs.History.{IsHistory, MayCome, is_refused, wants, last_moment};
-ghost use Rattle.sx_spec.specs.Step.{step, replay};
-ghost use Rattle.sx_spec.specs.Whole.{IsWhole};
+ghost use Rattle.sx_base.specs.Clock.{greatest_moment};
+ghost use Rattle.sx_stage_call.specs.declared.call.Call.TheVariants as Call;
+ghost use Rattle.sx_stage_spec.specs.Account.{Account};
+ghost use Rattle.sx_stage_spec.specs.History.{IsHistory, MayCome, is_refused, wants, last_moment};
+ghost use Rattle.sx_stage_spec.specs.Step.{step, replay};
+ghost use Rattle.sx_stage_spec.specs.Whole.{IsWhole};
 
-use crate::serve::serve;
+use crate::apply::apply;
 use crate::state::State;
 use std::alloc::Global;
 use std::marker::Model;
-use sx_call::{Call, Entry, Noted, Reply, Stop};
+use sx_stage_call::{Call, Entry, Noted, Reply, Stop};
 
 /// The history up to a stated limit, with the account that it leaves.
 ///
-/// Entries and live sessions are together at most the limit, so that each live session keeps a place, and memory, for its end.
+/// Entries and live sessions are together at most the limit, so that each live session keeps a place, and memory, for
+/// its end.
 #[derive(Drop)]
 pub struct Book {
     state: State,
@@ -23,7 +25,7 @@ pub struct Book {
 }
 
 impl Model for Book {
-    ghost use Rattle.sx_spec.specs.History.{History};
+    ghost use Rattle.sx_stage_spec.specs.History.{History};
 
     ghost Value = { History };
 
@@ -51,6 +53,13 @@ impl Book {
         ensures { result.now ≡ self.now.entries }
     {
         self.entries.as_slice()
+    }
+
+    /// The state of the account after the entries.
+    pub fn state(&self) -> &State
+        ensures { result.now ≡ replay self.now.entries }
+    {
+        &self.state
     }
 
     /// How many entries there may be.
@@ -87,8 +96,8 @@ impl Book {
         self.state.started
     }
 
-    /// What a book keeps: its history is legal for its limit, the account that it leaves is whole, and each live session has a
-    /// place left for its end. It does nothing.
+    /// What a book keeps: its history is legal for its limit, the account that it leaves is whole, and each live
+    /// session has a place left for its end. It does nothing.
     pub fn keeps(&self)
         ensures history { IsHistory self.now.limit self.now.entries }
         ensures whole { IsWhole (replay self.now.entries) }
@@ -99,8 +108,8 @@ impl Book {
 
     /// Takes one entry into the history, and answers it.
     ///
-    /// It is refused a place exactly where the history's limit leaves none beside the ends of the live sessions, and for want
-    /// of memory; then all is as before. The end of a session is refused for neither.
+    /// `HistoryFull` comes exactly where the limit leaves no place beside the ends of the live sessions, and
+    /// `NoMemory` where no memory is left; then all is as before. The end of a session is refused for neither.
     pub fn step(&mut self, entry: Entry) -> Result<Reply, Stop>
         requires { MayCome (replay self.old.entries) (last_moment self.old.entries) entry }
         ensures reply { IfOk result (λ reply. reply ≡ (step (replay self.old.entries) entry).1) }
@@ -108,9 +117,11 @@ impl Book {
           entries = self.old.entries ++ record { entry = entry; refused = is_refused reply } ∷ [];
           limit = self.old.limit;
         }) }
-        ensures room { OnOk result (length self.old.entries + wants (replay self.old.entries) entry.call ≤ self.old.limit) }
+        ensures room { OnOk result
+            (length self.old.entries + wants (replay self.old.entries) entry.call ≤ self.old.limit) }
         ensures full { (entries sessions limit : ℕ) → result ≡ Err (Stop.HistoryFull entries sessions limit) →
-            (self.old.limit < length self.old.entries + wants (replay self.old.entries) entry.call) × (entries ≡ length self.old.entries)
+            (self.old.limit < length self.old.entries + wants (replay self.old.entries) entry.call)
+            × (entries ≡ length self.old.entries)
             × (sessions ≡ length (replay self.old.entries).sessions) × (limit ≡ self.old.limit) }
         ensures err { OnErr result (self.new ≡ self.old) }
         ensures ends { entry.call ≡ Call.End → IsOk result }
@@ -130,7 +141,7 @@ impl Book {
             return Err(Stop::NoMemory);
         };
         entry.call.keeps_limits();
-        let Ok(reply) = serve(&mut self.state, &entry) else {
+        let Ok(reply) = apply(&mut self.state, &entry) else {
             return Err(Stop::NoMemory);
         };
         let refused = is_refusal(&reply);

@@ -1,14 +1,17 @@
-//! The book: the history, and the account that it leaves. The office: many callers of one book, each with a pass of its own.
+//! The book, which is the history with the account that it leaves; and the office, through which many callers ask one
+//! book.
 #![tactic(auto)]
 
+mod append;
+mod apply;
 mod book;
-mod enter;
-mod lists;
 mod office;
+mod opening;
+mod opens;
 mod operations;
 mod pass;
 mod report;
-mod serve;
+mod sessions;
 mod shares;
 mod state;
 mod tail;
@@ -18,10 +21,6 @@ pub use office::Office;
 pub use pass::{Pass, Receipt, Session};
 pub use report::{ConnEnd, ConnReport, Full};
 pub use state::State;
-pub use sx_call::Stop;
+pub use sx_memory::NoMemory;
+pub use sx_stage_call::Stop;
 pub use sx_turn::{CloseFault, SeatFault};
-
-#[cfg(test)]
-mod office_tests;
-#[cfg(test)]
-mod tests;

@@ -1,27 +1,33 @@
 //! The office: one book, asked by many callers in turns.
-ghost use Rattle.std.specs.Prelude.{◌≡◌, ◌+◌, ◌≤◌, ◌<◌, ◌≢◌, true, Some, None, IfOk, IfErr, OnOk, OnErr, IsOk, Err, length, ℕ};
+ghost use Rattle.std.specs.Prelude.{◌≡◌, ◌+◌, ◌≤◌, ◌<◌, ◌≢◌, true, Some, None, IfOk, IfErr, OnOk, OnErr, IsOk, Err};
+ghost use Rattle.std.specs.Prelude.{length, ℕ};
+ghost use Rattle.std.specs.List.{AllByRecursion};
 ghost use Rattle.std.specs.Option.{option_copied};
 ghost use mathlib.Core.List.{IsPrefix};
-ghost use Rattle.sx_base.specs.Moments.{greatest_moment};
-ghost use Rattle.sx_call.specs.declared.call.Call.TheVariants as Call;
-ghost use Rattle.sx_call.specs.declared.reply.Reply.TheVariants.{Smb};
-ghost use Rattle.sx_call.specs.declared.reply.SmbReply.TheVariants.{Started};
-ghost use Rattle.sx_call.specs.declared.reply.Stop.TheVariants as Stop;
-ghost use Rattle.sx_spec.specs.History.{draws_none, wants};
-ghost use Rattle.sx_spec.specs.Step.{replay};
-ghost use Rattle.sx_turn.specs.Places.{Each};
+ghost use Rattle.sx_base.specs.Clock.{greatest_moment};
+ghost use Rattle.sx_stage_call.specs.declared.call.Call.TheVariants as Call;
+ghost use Rattle.sx_stage_call.specs.declared.reply.Reply.TheVariants.{Smb};
+ghost use Rattle.sx_stage_call.specs.declared.reply.SmbReply.TheVariants.{Started};
+ghost use Rattle.sx_stage_call.specs.declared.reply.Stop.TheVariants as Stop;
+ghost use Rattle.sx_stage_spec.specs.History.{draws_none, wants};
+ghost use Rattle.sx_stage_spec.specs.Step.{replay};
 ghost use Rattle.sx_turn.specs.declared.turn.SeatFault.TheVariants.{NoSeat};
-ghost use Rattle.sx_book.specs.Passes.{PassView, StandsIn, MayAsk, HoldsSession, TookPlace, TookNone, SawMore, GrowsByOthers, IsSamePass, KeepsSessions, KeepsOtherSessions, pass_after_look, NumbersBelow, NumbersDiffer, OwnsAllNumbers, OwnsEachSeen, first_pass, new_pass, pass_pairs, after_meet, HasExactPlaces, caller_of, session_or_0, entries_from};
+ghost use Rattle.sx_book.specs.Passes.{PassView, StandsIn, MayAsk, HoldsSession, Appends, AppendsNone, SawMore};
+ghost use Rattle.sx_book.specs.Passes.{GrowsByOthers, IsSamePass, KeepsSessions, KeepsOtherSessions, pass_after_look};
+ghost use Rattle.sx_book.specs.Passes.{NumbersBelow, NumbersDiffer, OwnsAllNumbers, OwnsEachSeen, first_pass};
+ghost use Rattle.sx_book.specs.Passes.{new_pass, pass_pairs, after_meet, HasExactPlaces, caller_of, session_or_0};
+ghost use Rattle.sx_book.specs.Passes.{entries_from};
 
+use crate::append::append_call;
 use crate::book::Book;
-use crate::enter::enter;
 use crate::pass::{Pass, Receipt, Session};
 use crate::tail::copy_from;
 use std::alloc::Global;
 use std::marker::Model;
 use std::sync::Wait;
-use sx_base::{Items, NoMemory};
-use sx_call::{Call, Noted, Reply, SmbReply, Stop};
+use sx_base::Items;
+use sx_memory::NoMemory;
+use sx_stage_call::{Call, Noted, Reply, SmbReply, Stop};
 use sx_turn::{CloseFault, SeatFault, Turn};
 
 /// One book, and the turn in which its passes ask it. There are at most 64 passes, numbered 0 to 63.
@@ -49,8 +55,8 @@ impl Office {
         }
     }
 
-    /// Waits for the pass's turn, and enters a call in it.
-    fn enter<R: Wait>(
+    /// Waits for the pass's turn, and appends a call in it.
+    fn append_in_turn<R: Wait>(
         &self,
         rt: &R,
         pass: &mut Pass,
@@ -62,23 +68,24 @@ impl Office {
         requires own { pass.old.office ≡ self.now }
         requires clock { now ≤ greatest_moment }
         requires session { StandsIn pass.old session call }
-        ensures ok { IfOk result (λ r. TookPlace pass.old session now fresh call r pass.new) }
-        ensures stop { IfErr result (λ s. TookNone pass.old call s pass.new) }
+        ensures ok { IfOk result (λ r. Appends pass.old session now fresh call r pass.new) }
+        ensures stop { IfErr result (λ s. AppendsNone pass.old call s pass.new) }
         ensures ends { call ≡ Call.End → IsOk result }
         ensures same { IsSamePass pass.old pass.new }
     {
         let who = pass.seat.number();
         let mut held = self.turn.take(rt, &mut pass.seat);
         held.value().keeps();
-        let result = enter(held.value_mut(), who, session, now, fresh, call);
+        let result = append_call(held.value_mut(), who, session, now, fresh, call);
         self.turn.give(&mut pass.seat, held);
         result
     }
 
     /// Asks a call, and answers its place in the history, its moment and its reply.
     ///
-    /// A call of REST comes without a session, and `fresh` stands in its entry. A session's call comes with a session that the
-    /// pass holds. `HistoryFull` comes exactly where the entries and the live sessions are as many as the limit allows.
+    /// A call of REST comes without a session, and `fresh` stands in its entry. A session's call comes with a session
+    /// that the pass holds. `HistoryFull` comes exactly where the entries and the live sessions are as many as the
+    /// limit allows.
     pub fn ask<R: Wait>(
         &self,
         rt: &R,
@@ -91,18 +98,20 @@ impl Office {
         requires own { pass.old.office ≡ self.now }
         requires clock { now ≤ greatest_moment }
         requires call { MayAsk pass.old (option_copied session) call }
-        ensures ok { IfOk result (λ r. TookPlace pass.old (session_or_0 (option_copied session.entry)) now fresh call r pass.new) }
-        ensures stop { IfErr result (λ s. TookNone pass.old call s pass.new) }
-        ensures full { (entries sessions limit : ℕ) → result ≡ Err (Stop.HistoryFull entries sessions limit) → entries + sessions ≡ limit }
+        ensures ok { IfOk result (λ r.
+            Appends pass.old (session_or_0 (option_copied session.entry)) now fresh call r pass.new) }
+        ensures stop { IfErr result (λ s. AppendsNone pass.old call s pass.new) }
+        ensures full { (entries sessions limit : ℕ) →
+            result ≡ Err (Stop.HistoryFull entries sessions limit) → entries + sessions ≡ limit }
         ensures held { KeepsSessions pass.old pass.new }
         ensures same { IsSamePass pass.old pass.new }
     {
         let number = number_of(session);
-        self.enter(rt, pass, number, now, fresh, call)
+        self.append_in_turn(rt, pass, number, now, fresh, call)
     }
 
-    /// Starts a session of a peer. It takes a place, and another for the session's end, and is refused exactly where the limit
-    /// doesn't leave both.
+    /// Starts a session of a peer. It needs a place, and another for the session's end: `HistoryFull` comes exactly
+    /// where the limit doesn't leave both.
     pub fn start<R: Wait>(
         &self,
         rt: &R,
@@ -112,13 +121,17 @@ impl Office {
     ) -> Result<(Session, Receipt), Stop>
         requires own { pass.old.office ≡ self.now }
         requires clock { now ≤ greatest_moment }
-        ensures ok { IfOk result (λ t. TookPlace pass.old 0 now 0 (Call.Start peer) t.1 pass.new) }
+        ensures ok { IfOk result (λ t. Appends pass.old 0 now 0 (Call.Start peer) t.1 pass.new) }
         ensures session { IfOk result (λ t. HoldsSession pass.new t.0 × (t.1.reply ≡ Smb (Started t.0))) }
-        ensures stop { IfErr result (λ s. TookNone pass.old (Call.Start peer) s pass.new) }
+
+        // The session is none of those that the pass held.
+        ensures other { IfOk result (λ t. (s : ℕ) → HoldsSession pass.old s → s ≢ t.0) }
+
+        ensures stop { IfErr result (λ s. AppendsNone pass.old (Call.Start peer) s pass.new) }
         ensures held { KeepsSessions pass.old pass.new }
         ensures same { IsSamePass pass.old pass.new }
     {
-        let receipt = match self.enter(rt, pass, 0, now, 0, Call::Start { peer }) {
+        let receipt = match self.append_in_turn(rt, pass, 0, now, 0, Call::Start { peer }) {
             Ok(receipt) => receipt,
             Err(stop) => return Err(stop),
         };
@@ -126,7 +139,7 @@ impl Office {
         Ok((Session { number }, receipt))
     }
 
-    /// Ends a session. It can't be refused and takes no memory: the session kept a place for it.
+    /// Ends a session. It can't be refused and takes no memory: the history kept a place for it.
     pub fn end_session<R: Wait>(
         &self,
         rt: &R,
@@ -137,27 +150,30 @@ impl Office {
         requires own { pass.old.office ≡ self.now }
         requires clock { now ≤ greatest_moment }
         requires held { HoldsSession pass.old session }
-        ensures ended { TookPlace pass.old session now 0 Call.End result pass.new }
+        ensures ended { Appends pass.old session now 0 Call.End result pass.new }
         ensures others_held { KeepsOtherSessions session pass.old pass.new }
         ensures same { IsSamePass pass.old pass.new }
     {
         let Session { number } = session;
-        match self.enter(rt, pass, number, now, 0, Call::End) {
+        match self.append_in_turn(rt, pass, number, now, 0, Call::End) {
             Ok(receipt) => receipt,
             Err(_) => unreachable!(),
         }
     }
 
-    /// A new pass with a number of its own, or `NoSeat(64)` exactly where all 64 numbers were given out. It waits for a turn.
+    /// A new pass with a number of its own, or `NoSeat(64)` exactly where all 64 numbers were given out. It waits for
+    /// a turn.
     pub fn split<R: Wait>(&self, rt: &R, pass: &mut Pass) -> Result<Pass, SeatFault>
         requires own { pass.old.office ≡ self.now }
         ensures new { IfOk result (λ q. q ≡ new_pass pass.old q.number q.seen) }
 
         // Its number is below 64, not among those that the pass knows of, and no entry that it has seen has it.
-        ensures number { IfOk result (λ q. (q.number < 64) × (pass.old.known ≤ q.number) × NumbersBelow q.number pass.old × Each (λ n. caller_of n < q.number) q.seen) }
+        ensures number { IfOk result (λ q. (q.number < 64) × (pass.old.known ≤ q.number)
+            × NumbersBelow q.number pass.old × AllByRecursion (λ n. caller_of n < q.number) q.seen) }
 
         ensures asked { IfOk result (λ q. pass.new ≡ pass_after_look q.seen (q.number + 1) pass.old) }
-        ensures refused { IfErr result (λ f. (f ≡ NoSeat 64) × (pass.new ≡ pass_after_look pass.new.seen 64 pass.old) × (pass.old.known ≤ 64)) }
+        ensures refused { IfErr result (λ f. (f ≡ NoSeat 64)
+            × (pass.new ≡ pass_after_look pass.new.seen 64 pass.old) × (pass.old.known ≤ 64)) }
         ensures others { GrowsByOthers pass.old.number pass.old.seen pass.new.seen }
         ensures held { KeepsSessions pass.old pass.new }
         ensures same { IsSamePass pass.old pass.new }
@@ -168,14 +184,15 @@ impl Office {
         }
     }
 
-    /// One pass takes in another, with its numbers and their places. What both have seen are beginnings of one history, and the
-    /// pass then knows the longer.
+    /// One pass takes in another, with its numbers and their places. What both have seen are beginnings of one
+    /// history, and the pass then knows the longer.
     pub fn meet(&self, into: &mut Pass, from: Pass)
         requires own { (into.old.office ≡ self.now) × (from.office ≡ self.now) }
         ensures met { into.new ≡ after_meet into.old from }
         ensures seen { IsPrefix into.old.seen into.new.seen × IsPrefix from.seen into.new.seen }
         ensures exact { HasExactPlaces into.new }
         ensures differ { NumbersDiffer into.new }
+        ensures held { KeepsSessions into.old into.new }
     {
         let Pass { seat } = from;
         self.turn.join(&mut into.seat, seat);
@@ -202,17 +219,20 @@ impl Office {
         copied
     }
 
-    /// Waits for a turn, and gives the book, exactly where each number that was given out is the pass's or met into it. Else the
-    /// office and the pass come back, and the pass has seen the history so far.
+    /// Waits for a turn, and gives the book, exactly where each number that was given out is the pass's or met into
+    /// it. Else the office and the pass come back, and the pass has seen the history so far.
     pub fn close<R: Wait>(self, rt: &R, pass: Pass) -> Result<Book, CloseFault<Office, Pass>>
         requires own { pass.office ≡ self }
         ensures book { IfOk result (λ b. b ≡ record { entries = pass.seen; limit = pass.limit }) }
-        ensures all { IfOk result (λ _. OwnsAllNumbers pass × OwnsEachSeen pass × HasExactPlaces pass × (pass.known ≤ length (pass_pairs pass))) }
+        ensures all { IfOk result (λ _. OwnsAllNumbers pass × OwnsEachSeen pass × HasExactPlaces pass
+            × (pass.known ≤ length (pass_pairs pass))) }
 
         // `known` of the pass that comes back is how many numbers were given out.
         ensures out { IfErr result (λ f. (1 ≤ f.out) × (f.out + length (pass_pairs pass) ≡ f.token.known)) }
-        ensures back { IfErr result (λ f. (f.whole ≡ self) × (f.token ≡ pass_after_look f.token.seen f.token.known pass)) }
-        ensures numbers { IfErr result (λ f. (pass.known ≤ f.token.known) × NumbersBelow f.token.known pass × NumbersDiffer pass) }
+        ensures back { IfErr result (λ f. (f.whole ≡ self)
+            × (f.token ≡ pass_after_look f.token.seen f.token.known pass)) }
+        ensures numbers { IfErr result (λ f. (pass.known ≤ f.token.known)
+            × NumbersBelow f.token.known pass × NumbersDiffer pass) }
         ensures others { IfErr result (λ f. GrowsByOthers pass.number pass.seen f.token.seen) }
     {
         let Office { turn } = self;
@@ -227,7 +247,8 @@ impl Office {
         }
     }
 
-    /// Lets go of an office that can't be closed yet, with its book, and of the pass. It answers how many numbers are out.
+    /// Lets go of an office that can't be closed yet, with its book, and of the pass. It answers how many numbers are
+    /// out.
     pub fn abandon(fault: CloseFault<Office, Pass>) -> u64
         ensures { result ≡ fault.out }
     {

@@ -3,7 +3,7 @@ ghost use Rattle.std.specs.Prelude.{◌≡◌};
 
 use crate::book::Book;
 use std::marker::Model;
-use sx_call::{Noted, Reply};
+use sx_stage_call::{Noted, Reply};
 use sx_turn::{Booked, Seat};
 
 impl Booked for Book {
@@ -16,8 +16,8 @@ impl Booked for Book {
     ghost lasting = { λ b. b.limit };
 }
 
-/// A caller's right to ask an office. It knows a beginning of the history, and the places there of its own entries and of those
-/// of the passes that met into it. It ends by `Office::meet` or `Office::close`, and can't be dropped.
+/// A caller's right to ask an office. It knows a beginning of the history, and the places there of its own entries
+/// and of those of the passes that met into it. It ends by `Office::meet` or `Office::close`, and can't be dropped.
 pub struct Pass {
     pub(crate) seat: Seat<Book>,
 }
@@ -42,7 +42,8 @@ impl Pass {
     }
 }
 
-/// A live session. It is used with the pass that started it, can't be copied or dropped, and ends by `Office::end_session`.
+/// A live session. It is used with the pass that started it, can't be copied or dropped, and ends by
+/// `Office::end_session`.
 pub struct Session {
     pub(crate) number: u32,
 }
@@ -64,12 +65,14 @@ impl Session {
     }
 }
 
-/// What an office answers to a call that took a place in the history.
+/// What an office answers to a call that was appended to the history.
 #[derive(Debug, Drop)]
 pub struct Receipt {
     /// The place of the call's entry, counted from 1.
     pub place: u64,
-    /// The entry's moment: the caller's, or that of the entry before it where that is later.
+    /// The entry's moment in units of 100 ns since 1970: the caller's, or that of the entry before it where that is
+    /// later.
     pub at: u64,
+    /// The reply of the step.
     pub reply: Reply,
 }

@@ -1,8 +1,13 @@
-/// The history's numbers when it had no place for a call: its entries, the sessions that were live, and its limit.
+//! What became of a connection or session.
+
+/// The history's numbers when it had no place for a call.
 #[derive(Clone, Copy, Debug, PartialEq, Eq)]
 pub struct Full {
+    /// How many entries it had.
     pub entries: u64,
+    /// How many sessions were live.
     pub sessions: u64,
+    /// The most entries and live sessions together.
     pub limit: u64,
 }
 
@@ -11,19 +16,25 @@ pub struct Full {
 pub enum ConnEnd {
     /// The input ended between requests or lines.
     Ended,
-    /// By a request that closes (none), or by a head, length or line outside the limits at that byte.
-    Closed { at: Option<u64> },
+    /// By a request that closes (none), or by a head, length or line outside the limits at that byte of the input.
+    Closed {
+        /// How many bytes stand before the first byte of what is outside the limits.
+        at: Option<u64>,
+    },
     /// The input ended inside a request or line, after so many of its bytes.
-    Cut { left: u64 },
+    Cut {
+        /// How many bytes of the request or line were left, 1 or more.
+        left: u64,
+    },
     /// The bytes taken reached the budget.
     Spent,
     /// A read failed.
     ReadFault,
     /// A write failed.
     WriteFault,
-    /// The session's start found no place in the history.
+    /// The history was full when the session was to start.
     Full(Full),
-    /// No memory was left to read.
+    /// Out of memory.
     NoMemory,
 }
 
@@ -34,10 +45,10 @@ pub struct ConnReport {
     pub end: ConnEnd,
     /// The bytes of its requests or lines, with those of one that was cut.
     pub taken: u64,
-    /// How many calls were asked.
+    /// How many calls were handed to the office.
     pub asked: u64,
-    /// The last time that the history was full.
+    /// The numbers of the last answer that the history was full.
     pub full: Option<Full>,
-    /// Whether a call was answered with want of memory.
+    /// Whether a line or call was answered with out of memory.
     pub starved: bool,
 }

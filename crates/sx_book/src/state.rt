@@ -1,44 +1,45 @@
+//! The state of the account, and look-ups in it.
 ghost use Rattle.std.specs.Prelude.{◌≡◌, length};
 ghost use Rattle.std.specs.Option.{option_copied};
 ghost use Rattle.std.specs.List.{list_any};
-ghost use Rattle.sx_spec.specs.Account.{empty, has_name, place_of, open_of, node_in};
+ghost use Rattle.sx_stage_spec.specs.Account.{empty, has_name, place_of, open_of, node_in};
 
-use crate::lists::open_at;
+use crate::opens::open_at;
 use std::alloc::Global;
 use std::collections::BTreeMap;
 use std::marker::Model;
-use sx_call::{Live, Open};
 use sx_names::{Path, ShareName};
-use sx_tree::{Found, Node, Share};
+use sx_stage_call::{Live, Open};
+use sx_stage_tree::{Found, Node, Share};
 
-/// The account as it stands.
+/// The account as it stands. Contracts see it as the account of the definitions.
 #[derive(Drop)]
 pub struct State {
-    pub alloc: Global,
-    /// How many entries came.
-    pub came: u64,
-    /// The next file id.
-    pub next_id: u64,
+    pub(crate) alloc: Global,
+    /// How many entries there are so far.
+    pub(crate) entry_count: u64,
+    /// The next file id, 1 or more.
+    pub(crate) next_id: u64,
     /// How many sessions were started.
-    pub started: u32,
+    pub(crate) started: u32,
     /// How many shares were made.
-    pub made: u32,
+    pub(crate) made: u32,
     /// The live sessions, in the order of their numbers.
-    pub sessions: Vec<Live>,
+    pub(crate) sessions: Vec<Live>,
     /// The open handles, in their order.
-    pub opens: Vec<Open>,
+    pub(crate) opens: Vec<Open>,
     /// The shares by their numbers.
-    pub shares: BTreeMap<u32, Share>,
+    pub(crate) shares: BTreeMap<u32, Share>,
 }
 
 impl Model for State {
-    ghost use Rattle.sx_spec.specs.Account.{Account};
+    ghost use Rattle.sx_stage_spec.specs.Account.{Account};
 
     ghost Value = { Account };
 
-    ghost use Rattle.sx_book.specs.State.{account_of};
+    ghost use Rattle.sx_book.specs.State.{account_view};
 
-    ghost view = { account_of };
+    ghost view = { account_view };
 }
 
 impl State {
@@ -48,7 +49,7 @@ impl State {
     {
         State {
             alloc,
-            came: 0,
+            entry_count: 0,
             next_id: 1,
             started: 0,
             made: 0,

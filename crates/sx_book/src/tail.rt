@@ -3,8 +3,9 @@ ghost use Rattle.std.specs.Prelude.{◌≡◌, IfOk, take, drop};
 ghost use Rattle.sx_book.specs.Passes.{entries_from};
 
 use std::alloc::Global;
-use sx_base::{Items, NoMemory};
-use sx_call::Noted;
+use sx_base::Items;
+use sx_memory::NoMemory;
+use sx_stage_call::Noted;
 
 /// Entries from a place on, copied, at most so many. Place 0 counts as 1.
 pub(crate) fn copy_from(
@@ -47,7 +48,7 @@ fn copy_all(alloc: Global, entries: &[Noted]) -> Result<Items<Noted>, NoMemory>
 {
     let mut copied = Items::new(alloc);
     for noted in entries {
-        copied.push(noted.copy(alloc)?)?;
+        copied.push(noted.copy()?)?;
     }
     Ok(copied)
 }

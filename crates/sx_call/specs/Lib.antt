@@ -1,2 +1,13 @@
+pub mod CallLimits
 pub mod Calls
+pub mod FieldLimits
+pub mod Leases
+pub mod Lengths
 pub mod Limits
+pub mod Listings
+pub mod Opens
+pub mod Ranges
+pub mod Shown
+pub mod Statuses
+pub mod Targets
+pub mod Updates

@@ -1,13 +1,6 @@
--- What the types of a call's fields keep.
-use Rattle.std.specs.Prelude.{ℕ, ◌+◌, ◌≤◌, List, length}
+-- What a type with a limit makes of a value.
+use Rattle.std.specs.Prelude.{Bool, if◌then◌else◌, Option, Some, None}
 
--- bytes and the place in a file where they are written
-pub record Placed : Type 0 where
-  pub at : ℕ
-  pub piece : List ℕ
-
--- 1 to 4,194,304 bytes that end at most at 4 TiB
-pub record IsPlaced (u : Placed) : Type 0 where
-  pub some : 1 ≤ length u.piece
-  pub short : length u.piece ≤ 4194304
-  pub within : u.at + length u.piece ≤ 4398046511104
+-- the value, where it is within the limits that a test stands for
+abbrev pub if_within : {A : Type 0} → (A → Bool) → A → Option A
+if_within test x = if test x then Some x else None

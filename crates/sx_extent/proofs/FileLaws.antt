@@ -1,15 +1,11 @@
--- Laws of the definition: lengths, counts of marks, and that files stay well formed. They are for crates above.
-use Rattle.std.proofs.Common.{◌≡◌, ℕ, zero, suc, ◌+◌, ◌-◌, ◌/◌, ◌≤◌, ◌<◌, min, Bool, true, false, not, ◌&&◌, ◌||◌, cond, ltb, leb, List, [], ◌∷◌, ◌++◌, length, get_or, take, drop, replicate, map, refl, sym, ap, ◌∙◌, inl, inr, arith, zero-add}
-use Rattle.std.specs.List.{range_with_len, filter, count_by}
-use Rattle.std.proofs.lemmas.List.{ext_get_or, length-append, get_or_append_left, get_or-append_right, get_or-take, length-take, length-replicate, get_or_past}
-use Rattle.std.proofs.lemmas.List.Sums.{length-filter}
-use Rattle.std.proofs.lemmas.List.Elements.{filter-append}
+-- Laws of the definition: lengths, and that files stay well formed.
+use Rattle.std.proofs.Common.{◌≡◌, ℕ, ◌+◌, ◌-◌, ◌/◌, ◌≤◌, ◌<◌, min, max, Bool, true, false, not, ◌&&◌, ◌||◌, cond, ltb, leb, List, ◌++◌, length, get_or, take, drop, replicate, refl, sym, ap, ◌∙◌, inl, inr, arith}
+use Rattle.std.proofs.lemmas.List.{length-append, get_or_append_left, get_or-append_right, get_or-take, length-take, length-drop, length-replicate}
 use Rattle.std.proofs.lemmas.Bool.{cases_lt, cond-true, cond-false, false≢true, or_parts, and_cases, not-false}
-use Rattle.sx_extent.specs.SparseFile.{SparseFile, IsWellFormed, is_marked, granule_count, most_bytes, covers, touches, marks_by, blank, update, clear, resize, used, fresh}
+use Rattle.sx_extent.specs.Ranges.{SparseFile, IsWellFormed, is_marked, granule_count, most_bytes, covers, touches, marks_by, blank, update, write, extend, clear, resize, cut}
 use Rattle.sx_extent.proofs.GranuleLemmas.{get_or-replaced, length-replaced, outside, inside}
 use Rattle.sx_extent.proofs.GranuleSteps.{touches_at, covers_true, zero_read}
 use Rattle.sx_extent.proofs.FileLemmas.{length-marks_by, get_or-marks_by}
-use Rattle.sx_extent.proofs.KeyLemmas.{length_filter_map}
 
 -- ---- lengths
 
@@ -44,72 +40,25 @@ pub length_resize : (f : SparseFile) (n : ℕ) → length (resize f n).bytes ≡
 unfolding resize
 length_resize f n = length_resized f n
 
--- ---- marks
+pub length_extend : (f : SparseFile) (n : ℕ) → length (extend f n).bytes ≡ max (length f.bytes) n
+unfolding extend
+length_extend f n = length_resize f (max (length f.bytes) n)
 
--- the marks of a file, as a test of its granules
-own_marks : (f : SparseFile) → marks_by (is_marked f) (length f.marks) ≡ f.marks
-unfolding is_marked
-own_marks f = ext_get_or false (marks_by (is_marked f) (length f.marks)) f.marks (length-marks_by (is_marked f) (length f.marks)) (λ g b.
-    let l : g < length f.marks = rw (← length-marks_by (is_marked f) (length f.marks)) b in
-    get_or-marks_by (is_marked f) (length f.marks) g false l)
+pub length_write : (f : SparseFile) (at : ℕ) (piece : List ℕ) → length (write f at piece).bytes ≡ max (length f.bytes) (at + length piece)
+unfolding write
+length_write f at piece =
+    let e : length (extend f (at + length piece)).bytes ≡ max (length f.bytes) (at + length piece) = length_extend f (at + length piece) in
+    length_update (extend f (at + length piece)) at piece (omega arith) ∙ e
 
--- a mark of marks that a test gives
-marked_by : (f : SparseFile) (t : ℕ → Bool) (n g : ℕ) → f.marks ≡ marks_by t n → g < n → is_marked f g ≡ t g
-unfolding is_marked
-marked_by f t n g is l = ap (λ ms. get_or ms g false) is ∙ get_or-marks_by t n g false l
-
--- how many of the first granules pass a test
-count_marks : (t : ℕ → Bool) (n : ℕ) → count_by (λ m. m) (marks_by t n) ≡ length (filter t (range_with_len 0 n))
-unfolding marks_by
-count_marks t n = sym (length-filter (λ m. m) (map t (range_with_len 0 n))) ∙ length_filter_map t (range_with_len 0 n)
-
-used_count : (f : SparseFile) → used f ≡ length (filter (is_marked f) (range_with_len 0 (length f.marks)))
-unfolding used
-used_count f = ap (count_by (λ m. m)) (sym (own_marks f)) ∙ count_marks (is_marked f) (length f.marks)
-
--- what one test or another keeps
-either_pick : (p q : Bool) (x : ℕ) (a b c : List ℕ) → length a ≡ length b + length c → length (cond (p || q) (x ∷ a) a) ≡ length (cond p (x ∷ b) b) + length (cond (q && not p) (x ∷ c) c)
-either_pick true true x a b c h = omega arith
-either_pick true false x a b c h = omega arith
-either_pick false true x a b c h = omega arith
-either_pick false false x a b c h = h
-
-count_either : (p q : ℕ → Bool) (xs : List ℕ) → length (filter (λ x. p x || q x) xs) ≡ length (filter p xs) + length (filter (λ x. q x && not (p x)) xs)
-count_either p q [] = refl
-count_either p q (x ∷ xs) = either_pick (p x) (q x) x (filter (λ y. p y || q y) xs) (filter p xs) (filter (λ y. q y && not (p y)) xs) (count_either p q xs)
-
--- an update marks the fresh granules and no others
-pub used_update : (f : SparseFile) (at : ℕ) (piece : List ℕ) → used (update f at piece) ≡ used f + fresh f at (at + length piece)
-unfolding used update fresh
-used_update f at piece =
-    let c : List ℕ = range_with_len 0 (length f.marks) in
-    let t : ℕ → Bool = touches at (at + length piece) in
-    count_marks (λ g. is_marked f g || t g) (length f.marks)
-    ∙ count_either (is_marked f) t c
-    ∙ ap (λ j. j + length (filter (λ g. t g && not (is_marked f g)) c)) (sym (used_count f))
-    ∙ ap (λ j. used f + j) (length-filter (λ g. t g && not (is_marked f g)) c)
-
--- what passes two tests
-fewer_pick : (p q : Bool) (x : ℕ) (a b : List ℕ) → length a ≤ length b → length (cond (p && q) (x ∷ a) a) ≤ length (cond p (x ∷ b) b)
-fewer_pick true true x a b h = omega arith
-fewer_pick true false x a b h = omega arith
-fewer_pick false q x a b h = h
-
-count_fewer : (p q : ℕ → Bool) (xs : List ℕ) → length (filter (λ x. p x && q x) xs) ≤ length (filter p xs)
-count_fewer p q [] = omega arith
-count_fewer p q (x ∷ xs) = fewer_pick (p x) (q x) x (filter (λ y. p y && q y) xs) (filter p xs) (count_fewer p q xs)
-
--- a clear marks nothing
-pub used_clear : (f : SparseFile) (from end : ℕ) → used (clear f from end) ≤ used f
-unfolding used clear
-used_clear f from end =
-    let c : List ℕ = range_with_len 0 (length f.marks) in
-    let a = count_marks (λ g. is_marked f g && not (covers from end (length f.bytes) g)) (length f.marks) in
-    let b = count_fewer (is_marked f) (λ g. not (covers from end (length f.bytes) g)) c in
-    let d = used_count f in
-    omega arith
+pub length_cut : (f : SparseFile) (from end : ℕ) → from ≤ end → end ≤ length f.bytes → length (cut f from end) ≡ end - from
+length_cut f from end order fits = length-take (end - from) (drop from f.bytes) ∙ ap (min (end - from)) (length-drop from f.bytes) ∙ omega arith
 
 -- ---- files stay well formed
+
+-- a mark of marks that a test gives
+pub marked_by : (f : SparseFile) (t : ℕ → Bool) (n g : ℕ) → f.marks ≡ marks_by t n → g < n → is_marked f g ≡ t g
+unfolding is_marked
+marked_by f t n g is l = ap (λ ms. get_or ms g false) is ∙ get_or-marks_by t n g false l
 
 pub whole_blank : (n : ℕ) → n ≤ most_bytes → IsWellFormed (blank n)
 unfolding blank
@@ -178,43 +127,6 @@ whole_clear f from end order fits whole =
           ];
     }
 
--- a longer row of granules
-range_split : (a n m : ℕ) → range_with_len a (n + m) ≡ range_with_len a n ++ range_with_len (a + n) m
-range_split a zero m = let e : 0 + m ≡ m = zero-add m in let d : a + 0 ≡ a = omega arith in rw (e, d) refl
-range_split a (suc n) m =
-    let e : suc n + m ≡ suc (n + m) = omega arith in
-    let d : a + suc n ≡ a + 1 + n = omega arith in
-    rw (e, d) (ap (λ xs. a ∷ xs) (range_split (a + 1) n m))
-
--- granules that aren't the file's have no mark
-none_past : (f : SparseFile) (a m : ℕ) → length f.marks ≤ a → filter (is_marked f) (range_with_len a m) ≡ []
-unfolding is_marked
-none_past f a zero l = refl
-none_past f a (suc m) l = cond-false (get_or f.marks a false) _ _ (get_or_past f.marks a false l) ∙ none_past f (a + 1) m (omega arith)
-
--- a resize marks nothing
-pub used_resize : (f : SparseFile) (n : ℕ) → used (resize f n) ≤ used f
-unfolding used resize
-used_resize f n =
-    let p : ℕ → Bool = is_marked f in
-    let c : ℕ = granule_count n in
-    let k : ℕ = length f.marks in
-    let a : count_by (λ m. m) (marks_by p c) ≡ length (filter p (range_with_len 0 c)) = count_marks p c in
-    let b : used f ≡ length (filter p (range_with_len 0 k)) = used_count f in
-    elim (cases_lt c k) [
-      | inl l ↦
-          let e : c + (k - c) ≡ k = omega arith in
-          let s : length (filter p (range_with_len 0 k)) ≡ length (filter p (range_with_len 0 c)) + length (filter p (range_with_len (0 + c) (k - c))) =
-          ap (λ j. length (filter p (range_with_len 0 j))) (sym e) ∙ ap (λ xs. length (filter p xs)) (range_split 0 c (k - c)) ∙ ap length (filter-append p (range_with_len 0 c) (range_with_len (0 + c) (k - c))) ∙ length-append (filter p (range_with_len 0 c)) (filter p (range_with_len (0 + c) (k - c))) in
-          omega arith
-      | inr l ↦
-          let e : k + (c - k) ≡ c = omega arith in
-          let z : length (filter p (range_with_len (0 + k) (c - k))) ≡ 0 = ap length (none_past f (0 + k) (c - k) (omega arith)) in
-          let s : length (filter p (range_with_len 0 c)) ≡ length (filter p (range_with_len 0 k)) + length (filter p (range_with_len (0 + k) (c - k))) =
-          ap (λ j. length (filter p (range_with_len 0 j))) (sym e) ∙ ap (λ xs. length (filter p xs)) (range_split 0 k (c - k)) ∙ ap length (filter-append p (range_with_len 0 k) (range_with_len (0 + k) (c - k))) ∙ length-append (filter p (range_with_len 0 k)) (filter p (range_with_len (0 + k) (c - k))) in
-          omega arith
-    ]
-
 pub whole_resize : (f : SparseFile) (n : ℕ) → n ≤ most_bytes → IsWellFormed f → IsWellFormed (resize f n)
 unfolding resize
 whole_resize f n limit whole =
@@ -232,3 +144,11 @@ whole_resize f n limit whole =
             | inr h ↦ get_or-append_right (take n f.bytes) (replicate (n - length f.bytes) 0) (min n (length f.bytes)) k 0 t (omega arith) ∙ zero_read (n - length f.bytes) (k - min n (length f.bytes))
           ];
     }
+
+pub whole_write : (f : SparseFile) (at : ℕ) (piece : List ℕ) → at + length piece ≤ most_bytes → IsWellFormed f → IsWellFormed (write f at piece)
+unfolding write extend
+whole_write f at piece limit whole =
+    let l : length f.bytes ≤ most_bytes = whole.limit in
+    let n : ℕ = max (length f.bytes) (at + length piece) in
+    let e : length (resize f n).bytes ≡ n = length_resize f n in
+    whole_update (resize f n) at piece (omega arith) (whole_resize f n (omega arith) whole)

@@ -1,11 +1,11 @@
 -- The file that a map keeps, and what a change of the map makes of it.
-use Rattle.std.proofs.Common.{◌≡◌, ℕ, ◌+◌, ◌-◌, ◌*◌, ◌/◌, ◌%◌, ◌≤◌, ◌<◌, min, Bool, true, false, not, ◌&&◌, ◌||◌, cond, ltb, leb, List, [], ◌++◌, length, get_or, take, drop, replicate, Option, refl, sym, ap, ◌∙◌, subst, inl, inr, arith, zero-add}
+use Rattle.std.proofs.Common.{◌≡◌, ℕ, ◌+◌, ◌-◌, ◌*◌, ◌/◌, ◌%◌, ◌≤◌, ◌<◌, min, max, Bool, true, false, not, ◌&&◌, ◌||◌, cond, ltb, leb, List, [], ◌++◌, length, get_or, take, drop, replicate, Option, refl, sym, ap, ◌∙◌, subst, inl, inr, arith, zero-add}
 use Rattle.std.specs.Option.{is_some, IfSome, unwrap_or}
 use Rattle.std.proofs.lemmas.List.{ext_get_or, length-append, get_or_append_left, get_or-append_right, get_or-take, get_or-drop, length-take, length-drop, length-replicate, get_or-replicate, get_or_past}
 use Rattle.std.proofs.lemmas.List.FromFn.{length-map-range_with_len, get_or-map-range_with_len}
 use Rattle.std.proofs.lemmas.Bool.{cases_lt, cond-true, cond-false, false_from_ne_true, false≢true, or_cases, and_parts, and_from, le-leb, not-true}
-use Rattle.sx_extent.specs.SparseFile.{SparseFile, IsWellFormed, is_marked, granule_count, most_bytes, covers, touches, marks_by, blank, update, clear, resize, cut}
-use Rattle.sx_extent.specs.GranuleMap.{Entries, has_granule, byte_at, bytes_from, file_of, IsSized, IsKept, IsSame, IsWritten, IsMarked, IsErased, is_between}
+use Rattle.sx_extent.specs.Ranges.{SparseFile, IsWellFormed, is_marked, granule_count, most_bytes, covers, touches, marks_by, blank, update, write, extend, clear, resize, cut}
+use Rattle.sx_extent.specs.Granules.{Entries, has_granule, byte_at, bytes_from, file_of, IsSized, IsKept, IsSame, IsWritten, IsMarked, IsUpdated, IsErased, is_between}
 use Rattle.sx_extent.proofs.GranuleLemmas.{same_bytes, length-bytes_from, get_or-bytes_from, byte_at-none, get_or-replaced, length-replaced, outside, inside}
 use Rattle.sx_extent.proofs.GranuleSteps.{touches_true, covers_true, zero_read}
 
@@ -110,34 +110,41 @@ kept_blank n l = record { limit = l; sized = λ g. tt; within = λ g t. absurd (
 
 -- ---- an update
 
-pub file_updated : (n : ℕ) (old mid new : Entries) (at : ℕ) (piece : List ℕ) → at + length piece ≤ n → IsKept n old → IsMarked old mid at (at + length piece) → IsWritten mid new at piece → file_of n new ≡ update (file_of n old) at piece
+-- a mark and then a write
+pub updated : (old mid new : Entries) (at : ℕ) (piece : List ℕ) → IsMarked old mid at (at + length piece) → IsWritten mid new at piece → IsUpdated old new at piece
+updated old mid new at piece marked written = record {
+  marks = λ g. written.marks g ∙ marked.marks g;
+  bytes = λ k. written.bytes k ∙ ap (λ x. cond (leb at k && ltb k (at + length piece)) (get_or piece (k - at) 0) x) (marked.bytes k);
+}
+
+pub file_updated : (n : ℕ) (old new : Entries) (at : ℕ) (piece : List ℕ) → at + length piece ≤ n → IsKept n old → IsUpdated old new at piece → file_of n new ≡ update (file_of n old) at piece
 unfolding update
-file_updated n old mid new at piece fits kept marked written =
+file_updated n old new at piece fits kept updated =
     let v : List ℕ = bytes_from old 0 n in
     let lv : length v ≡ n = length-bytes_from old 0 n in
     file_is (update (file_of n old) at piece) n new
     (sym (ap (λ bs. take at bs ++ piece ++ drop (at + length piece) bs) (file_bytes n old)
     ∙ same_whole (take at v ++ piece ++ drop (at + length piece) v) new n (length-replaced v piece at (rw lv fits) ∙ lv) (λ k l.
     get_or-replaced v piece at k (rw lv fits)
-    ∙ ap (λ x. cond (leb at k && ltb k (at + length piece)) (get_or piece (k - at) 0) x) (get_or-whole old n k l ∙ sym (marked.bytes k))
-    ∙ sym (written.bytes k))))
+    ∙ ap (λ x. cond (leb at k && ltb k (at + length piece)) (get_or piece (k - at) 0) x) (get_or-whole old n k l)
+    ∙ sym (updated.bytes k))))
     (same_marks (has_granule new) (λ g. is_marked (file_of n old) g || touches at (at + length piece) g) (granule_count n) (λ g l.
-    written.marks g ∙ marked.marks g ∙ ap (λ b. b || touches at (at + length piece) g) (sym (mark_is n old g kept)))
+    updated.marks g ∙ ap (λ b. b || touches at (at + length piece) g) (sym (mark_is n old g kept)))
     ∙ ap (marks_by (λ g. is_marked (file_of n old) g || touches at (at + length piece) g)) (sym (mark_count n old)))
 
 -- the length of the file that a map keeps
 pub self_length : (n : ℕ) (es : Entries) (f : SparseFile) → file_of n es ≡ f → length f.bytes ≡ n
 self_length n es f e = ap (λ g. length g.bytes) (sym e) ∙ file_length n es
 
-pub kept_updated : (n : ℕ) (old mid new : Entries) (at : ℕ) (piece : List ℕ) → at + length piece ≤ n → IsKept n old → IsMarked old mid at (at + length piece) → IsWritten mid new at piece → IsSized new → IsKept n new
-kept_updated n old mid new at piece fits kept marked written sized = record {
+pub kept_updated : (n : ℕ) (old new : Entries) (at : ℕ) (piece : List ℕ) → at + length piece ≤ n → IsKept n old → IsUpdated old new at piece → IsSized new → IsKept n new
+kept_updated n old new at piece fits kept updated sized = record {
   limit = kept.limit;
   sized = sized;
-  within = λ g t. elim (or_cases (has_granule old g) (touches at (at + length piece) g) (sym (written.marks g ∙ marked.marks g) ∙ t)) [
+  within = λ g t. elim (or_cases (has_granule old g) (touches at (at + length piece) g) (sym (updated.marks g) ∙ t)) [
     | inl h ↦ kept.within g h
     | inr h ↦ let a = touches_true at (at + length piece) g h in omega arith
   ];
-  zeros = λ k l. written.bytes k ∙ cond-false _ _ (byte_at mid k) (outside at (at + length piece) k (λ a b. omega arith)) ∙ marked.bytes k ∙ kept.zeros k l;
+  zeros = λ k l. updated.bytes k ∙ cond-false _ _ (byte_at old k) (outside at (at + length piece) k (λ a b. omega arith)) ∙ kept.zeros k l;
 }
 
 -- ---- a clear
@@ -227,6 +234,39 @@ kept_resized n m keep old new low limit kept erased sized = record {
     | inr b ↦ cond-false (is_between keep n k) 0 (byte_at old k) (outside keep n k (λ a c. omega arith)) ∙ kept.zeros k b
   ];
 }
+
+-- a file that is made longer has the same map
+erased_none : (n : ℕ) (es : Entries) → IsKept n es → IsErased es es n n n
+erased_none n es kept = record {
+  marks = λ g. sym (resized_mark (has_granule es g) (covers n n n g) (λ h. not_covered n n g (kept.within g h)));
+  bytes = λ k. sym (cond-false (is_between n n k) 0 (byte_at es k) (outside n n k (λ a b. omega arith)));
+}
+
+pub file_grown : (n m : ℕ) (es : Entries) → n ≤ m → IsKept n es → file_of m es ≡ resize (file_of n es) m
+file_grown n m es order kept = file_resized n m n es es (omega arith) kept (erased_none n es kept)
+
+pub kept_grown : (n m : ℕ) (es : Entries) → n ≤ m → m ≤ most_bytes → IsKept n es → IsKept m es
+kept_grown n m es order limit kept = record {
+  limit = limit;
+  sized = kept.sized;
+  within = λ g t. let w : 512 * g < n = kept.within g t in omega arith;
+  zeros = λ k l. kept.zeros k (omega arith);
+}
+
+pub file_extended : (n m end : ℕ) (es : Entries) → m ≡ max n end → IsKept n es → file_of m es ≡ extend (file_of n es) end
+unfolding extend
+file_extended n m end es is kept =
+    file_grown n m es (omega arith) kept ∙ ap (resize (file_of n es)) (is ∙ ap (λ j. max j end) (sym (file_length n es)))
+
+pub file_written : (n m : ℕ) (old new : Entries) (at : ℕ) (piece : List ℕ) → m ≡ max n (at + length piece) → m ≤ most_bytes → IsKept n old → IsUpdated old new at piece → file_of m new ≡ write (file_of n old) at piece
+unfolding write
+file_written n m old new at piece is limit kept updated =
+    file_updated m old new at piece (omega arith) (kept_grown n m old (omega arith) limit kept) updated
+    ∙ ap (λ f. update f at piece) (file_extended n m (at + length piece) old is kept)
+
+pub kept_written : (n m : ℕ) (old new : Entries) (at : ℕ) (piece : List ℕ) → m ≡ max n (at + length piece) → m ≤ most_bytes → IsKept n old → IsUpdated old new at piece → IsSized new → IsKept m new
+kept_written n m old new at piece is limit kept updated sized =
+    kept_updated m old new at piece (omega arith) (kept_grown n m old (omega arith) limit kept) updated sized
 
 -- ---- reading
 

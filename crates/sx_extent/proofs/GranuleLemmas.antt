@@ -11,7 +11,7 @@ use Rattle.std.proofs.lemmas.List.{ext_get_or, places, length-replicate, get_or-
 use Rattle.std.proofs.lemmas.List.FromFn.{length-map-range_with_len, get_or-map-range_with_len}
 use Rattle.std.proofs.lemmas.Bool.Decides.{nat_tests}
 use Rattle.std.proofs.lemmas.Bool.{leb-true, ltb-true, eqb-true, eq-eqb, ne_eqb, le-leb, lt-ltb, cases_Bool, cases_eq, cond-true, cond-false, and_parts, and_from, false_from_ne_true, false≢true, or_cases}
-use Rattle.sx_extent.specs.GranuleMap.{Entries, granule_at, has_granule, byte_at, bytes_from, IsSized, IsPut, IsSame, IsWritten}
+use Rattle.sx_extent.specs.Granules.{Entries, granule_at, has_granule, byte_at, bytes_from, IsSized, IsPut, IsSame, IsWritten}
 
 -- an answer that is there, and one that is not
 pub some_when : {X : Type 0} (o : Option X) → is_some o ≡ true → (x : X) × (o ≡ Some x)

@@ -10,8 +10,8 @@ use Rattle.std.proofs.lemmas.Bool.Decides.{nat_tests}
 use Rattle.std.proofs.lemmas.Bool.{leb-true, ltb-true, eqb-true, eq-eqb, lt-ltb, le-ltb, cases_Bool, cases_lt, cond-true, cond-false, and_parts, and_from, false_from_ne_true, false≢true, not-true}
 use Rattle.std.proofs.lemmas.List.Elements.{All-weaker, filter_passes}
 use Rattle.std.specs.Result.{OnOk, OnErr}
-use Rattle.sx_extent.specs.SparseFile.{covers, touches}
-use Rattle.sx_extent.specs.GranuleMap.{Entries, granule_at, has_granule, byte_at, bytes_from, IsSized, IsPut, IsSame, IsWritten, IsMarked, IsErased, is_between}
+use Rattle.sx_extent.specs.Ranges.{covers, touches}
+use Rattle.sx_extent.specs.Granules.{Entries, granule_at, has_granule, byte_at, bytes_from, IsSized, IsPut, IsSame, IsWritten, IsMarked, IsErased, is_between}
 use Rattle.sx_extent.proofs.GranuleLemmas.{same_bytes, length-bytes_from, get_or-bytes_from, byte_at-put, has_granule-put, byte_at-none, outside, inside}
 
 -- ---- reading
@@ -336,6 +336,10 @@ missing_absent old ns ms is =
 pub on_ok : {X E A B : Type 0} (r : Result X E) → (A → B) → OnOk r A → OnOk r B
 on_ok (Ok x) f a = f a
 on_ok (Err e) f a = tt
+
+pub on_err : {X E A B : Type 0} (r : Result X E) → (A → B) → OnErr r A → OnErr r B
+on_err (Ok x) f a = tt
+on_err (Err e) f a = f a
 
 pub either_way : {X E A B C : Type 0} (r : Result X E) → OnOk r A → OnErr r B → (A → C) → (B → C) → C
 either_way (Ok x) a b f g = f a

@@ -1,5 +1,5 @@
 -- The numbers of the granules that have entries, in order, and how many they are.
-use Rattle.std.proofs.Common.{◌≡◌, ℕ, zero, suc, ◌+◌, ◌-◌, ◌*◌, ◌/◌, ◌≤◌, ◌<◌, min, max, Bool, true, false, not, ◌&&◌, ◌||◌, cond, eqb, ltb, leb, List, [], ◌∷◌, length, map, refl, sym, ap, ◌∙◌, inl, inr, arith, zero-add}
+use Rattle.std.proofs.Common.{◌≡◌, ℕ, zero, suc, ◌+◌, ◌-◌, ◌*◌, ◌/◌, ◌≤◌, ◌<◌, min, max, Bool, true, false, not, ◌&&◌, ◌||◌, cond, eqb, ltb, leb, List, [], ◌∷◌, ◌++◌, length, map, refl, sym, ap, ◌∙◌, inl, inr, arith, zero-add}
 use Rattle.std.specs.Option.{IsSome}
 use Rattle.std.specs.Ordering.{nat_cmp}
 use Rattle.std.specs.declared.cmp.Ordering.TheVariants.{Less}
@@ -11,18 +11,19 @@ use Rattle.std.specs.BTreeMap.Range.{entries_between, range_contains}
 use Rattle.std.specs.Cmp.{nat_cmp_total, eq_by_cmp_equiv}
 use Rattle.std.specs.declared.ops.Bound.TheVariants.{Included, Excluded}
 use Rattle.std.proofs.lemmas.List.Sums.{length-filter}
-use Rattle.std.proofs.lemmas.List.Elements.{All-cons, All-head, All-tail, All-weaker, filter_agree}
+use Rattle.std.proofs.lemmas.List.{append-nil}
+use Rattle.std.proofs.lemmas.List.Elements.{All-cons, All-head, All-tail, All-weaker, filter_agree, filter-append}
 use Rattle.std.proofs.lemmas.Map.Keys.{sorted_tail}
 use Rattle.std.proofs.lemmas.Map.Views.{All-after_first, All-keys_from_lookup}
 use Rattle.std.proofs.lemmas.Map.Entries.{length-keys_of}
 use Rattle.std.proofs.lemmas.Map.Made.{is_some-lookup}
 use Rattle.std.proofs.lemmas.Bool.Decides.{nat_tests}
-use Rattle.std.proofs.lemmas.Bool.{leb-true, ltb-true, eq-eqb, ne_eqb, cases_Bool, cases_eq, cases_lt, cond-true, cond-false, false≢true, and_parts, lt-ltb, le-ltb}
-use Rattle.sx_extent.specs.SparseFile.{SparseFile, is_marked, granule_count, touches, marks_by, used, fresh}
-use Rattle.sx_extent.specs.GranuleMap.{Entries, granule_at, has_granule, file_of, IsKept}
+use Rattle.std.proofs.lemmas.Bool.{leb-true, ltb-true, eq-eqb, ne_eqb, false_from_ne_true, cases_Bool, cases_eq, cases_lt, cond-true, cond-false, false≢true, and_parts, lt-ltb, le-ltb}
+use Rattle.sx_extent.specs.Ranges.{SparseFile, is_marked, granule_count, most_bytes, touches, marks_by, used, fresh}
+use Rattle.sx_extent.specs.Granules.{Entries, granule_at, has_granule, file_of, IsKept}
 use Rattle.sx_extent.proofs.GranuleLemmas.{inside}
-use Rattle.sx_extent.proofs.GranuleSteps.{touches_is, past_first}
-use Rattle.sx_extent.proofs.FileLemmas.{mark_is, mark_count, file_marks}
+use Rattle.sx_extent.proofs.GranuleSteps.{touches_is, touches_true, past_first}
+use Rattle.sx_extent.proofs.FileLemmas.{mark_is, file_marks, kept_grown}
 
 -- ---- lists of numbers in order
 
@@ -43,7 +44,7 @@ filter_range_same p q a (suc n) h =
     ap (λ b. cond b (a ∷ filter p (range_with_len (a + 1) n)) (filter p (range_with_len (a + 1) n))) (h a (omega arith))
     ∙ ap (λ xs. cond (q a) (a ∷ xs) xs) (filter_range_same p q (a + 1) n (λ g l. h g (omega arith)))
 
-filter_none : (xs : List ℕ) → filter (λ q. false) xs ≡ []
+pub filter_none : (xs : List ℕ) → filter (λ q. false) xs ≡ []
 filter_none [] = refl
 filter_none (x ∷ xs) = filter_none xs
 
@@ -192,22 +193,53 @@ past_within n from end past order fits last = elim (cases_lt from end) [
   | inr l ↦ let i : past ≡ from / 512 = last ∙ cond-false (ltb from end) _ _ (le-ltb from end l) in omega arith
 ]
 
-pub fresh_is : (n : ℕ) (es : Entries) (from end past : ℕ) → IsKept n es → IsStrictlySortedBy nat_cmp (keys_of es) → from ≤ end → end ≤ n → past ≡ cond (ltb from end) ((end + 511) / 512) (from / 512)
+-- a longer row of granules
+pub range_split : (a n m : ℕ) → range_with_len a (n + m) ≡ range_with_len a n ++ range_with_len (a + n) m
+range_split a zero m = let e : 0 + m ≡ m = zero-add m in let d : a + 0 ≡ a = omega arith in rw (e, d) refl
+range_split a (suc n) m =
+    let e : suc n + m ≡ suc (n + m) = omega arith in
+    let d : a + suc n ≡ a + 1 + n = omega arith in
+    rw (e, d) (ap (λ xs. a ∷ xs) (range_split (a + 1) n m))
+
+-- a test that fails from a place on keeps nothing from there
+filter_past : (p : ℕ → Bool) (a m : ℕ) → ((g : ℕ) → a ≤ g → p g ≡ false) → filter p (range_with_len a m) ≡ []
+filter_past p a zero h = refl
+filter_past p a (suc m) h = cond-false (p a) _ _ (h a (omega arith)) ∙ filter_past p (a + 1) m (λ g l. h g (omega arith))
+
+-- and it keeps as much of a longer row
+pub filter_longer : (p : ℕ → Bool) (c d : ℕ) → c ≤ d → ((g : ℕ) → c ≤ g → p g ≡ false) → filter p (range_with_len 0 d) ≡ filter p (range_with_len 0 c)
+filter_longer p c d order h =
+    let e : c + (d - c) ≡ d = omega arith in
+    ap (λ j. filter p (range_with_len 0 j)) (sym e)
+    ∙ ap (filter p) (range_split 0 c (d - c))
+    ∙ filter-append p (range_with_len 0 c) (range_with_len (0 + c) (d - c))
+    ∙ ap (λ xs. filter p (range_with_len 0 c) ++ xs) (filter_past p (0 + c) (d - c) (λ g l. h g (omega arith)))
+    ∙ append-nil (filter p (range_with_len 0 c))
+
+-- no granule past an interval is touched by it
+pub untouched : (from end g : ℕ) → granule_count end ≤ g → touches from end g ≡ false
+untouched from end g l = false_from_ne_true (touches from end g) (λ t. let a = touches_true from end g t in omega arith)
+
+pub fresh_is : (n : ℕ) (es : Entries) (from end past : ℕ) → IsKept n es → IsStrictlySortedBy nat_cmp (keys_of es) → from ≤ end → end ≤ most_bytes → past ≡ cond (ltb from end) ((end + 511) / 512) (from / 512)
     → length (entries_between nat_cmp (Included (from / 512)) (Excluded past) es) + fresh (file_of n es) from end ≡ past - from / 512
 unfolding fresh
-fresh_is n es from end past kept sorted order fits last =
+fresh_is n es from end past kept_n sorted order limit last =
     let first : ℕ = from / 512 in
-    let f : SparseFile = file_of n es in
-    let c : List ℕ = range_with_len 0 (granule_count n) in
+    let m : ℕ = max n end in
+    let h : n ≤ most_bytes = kept_n.limit in
+    let kept : IsKept m es = kept_grown n m es (omega arith) (omega arith) kept_n in
+    let f : SparseFile = file_of m es in
+    let c : List ℕ = range_with_len 0 (granule_count m) in
     let least : first ≤ past = past_first from end past last in
     let e : first + (past - first) ≡ past = omega arith in
     let marked : length (entries_between nat_cmp (Included first) (Excluded past) es) ≡ length (filter (λ g. is_marked f g && touches from end g) c) =
-    sym (length-keys_of (entries_between nat_cmp (Included first) (Excluded past) es)) ∙ ap length (keys_between n es from end past kept sorted last) in
-    let touched : length (filter (touches from end) c) ≡ min past (0 + granule_count n) - max first 0 =
-    ap length (filter_agree (touches from end) (λ g. leb first g && ltb g past) (λ g. touches_is from end past g last ∙ ap (λ j. leb first g && ltb g j) e) c) ∙ count_range first past 0 (granule_count n) in
+    sym (length-keys_of (entries_between nat_cmp (Included first) (Excluded past) es)) ∙ ap length (keys_between m es from end past kept sorted last) in
+    let touched : length (filter (touches from end) c) ≡ min past (0 + granule_count m) - max first 0 =
+    ap length (filter_agree (touches from end) (λ g. leb first g && ltb g past) (λ g. touches_is from end past g last ∙ ap (λ j. leb first g && ltb g j) e) c) ∙ count_range first past 0 (granule_count m) in
     let both = count_both (touches from end) (is_marked f) c in
-    let last_in : past ≤ granule_count n = past_within n from end past order fits last in
-    let fresh_ones : length (filter (λ g. touches from end g && not (is_marked f g)) c) ≡ count_by (λ g. touches from end g && not (is_marked f g)) (range_with_len 0 (length f.marks)) =
-    length-filter (λ g. touches from end g && not (is_marked f g)) c
-    ∙ ap (λ j. count_by (λ g. touches from end g && not (is_marked f g)) (range_with_len 0 j)) (sym (mark_count n es)) in
+    let last_in : past ≤ granule_count m = past_within m from end past order (omega arith) last in
+    let fresh_ones : length (filter (λ g. touches from end g && not (is_marked f g)) c) ≡ count_by (λ g. touches from end g && not (is_marked (file_of n es) g)) (range_with_len 0 (granule_count end)) =
+    ap length (filter_longer (λ g. touches from end g && not (is_marked f g)) (granule_count end) (granule_count m) (omega arith) (λ g l. ap (λ b. b && not (is_marked f g)) (untouched from end g l)))
+    ∙ ap length (filter_agree (λ g. touches from end g && not (is_marked f g)) (λ g. touches from end g && not (is_marked (file_of n es) g)) (λ g. ap (λ b. touches from end g && not b) (mark_is m es g kept ∙ sym (mark_is n es g kept_n))) (range_with_len 0 (granule_count end)))
+    ∙ length-filter (λ g. touches from end g && not (is_marked (file_of n es) g)) (range_with_len 0 (granule_count end)) in
     omega arith

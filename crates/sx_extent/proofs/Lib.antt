@@ -5,4 +5,6 @@ pub mod KeyLemmas
 pub mod SpanLemmas
 pub mod ViewLemmas
 pub mod FileLaws
+pub mod UseLaws
+pub mod PartLaws
 pub mod RunLaws

@@ -4,7 +4,7 @@ use Rattle.std.specs.List.{range_with_len, filter}
 use Rattle.std.proofs.lemmas.List.{get_or_past}
 use Rattle.std.proofs.lemmas.Bool.Decides.{nat_tests}
 use Rattle.std.proofs.lemmas.Bool.{leb-true, ltb-true, eqb-true, eq-eqb, cases_Bool, cases_lt, and_parts, and_from, false_from_ne_true, false≢true}
-use Rattle.sx_extent.specs.SparseFile.{SparseFile, Interval, is_marked, touches, joined, joined_before, listed, part_of_granule, lies_in, AreApart, AreRuns}
+use Rattle.sx_extent.specs.Ranges.{SparseFile, Interval, is_marked, touches, joined, joined_before, listed, part_of_granule, lies_in, AreApart, AreRuns}
 use Rattle.sx_extent.proofs.GranuleLemmas.{outside, inside}
 use Rattle.sx_extent.proofs.GranuleSteps.{touches_at, touches_true, one_more}
 

@@ -9,8 +9,8 @@ use Rattle.std.specs.Map.{keys_of}
 use Rattle.std.specs.Ordering.{nat_cmp}
 use Rattle.std.specs.BTreeMap.Range.{entries_between}
 use Rattle.std.specs.declared.ops.Bound.TheVariants.{Included, Excluded}
-use Rattle.sx_extent.specs.SparseFile.{SparseFile, Interval, joined, joined_before, listed, part_of_granule, is_marked, touches, granule_count}
-use Rattle.sx_extent.specs.GranuleMap.{Entries, IsKept, file_of}
+use Rattle.sx_extent.specs.Ranges.{SparseFile, Interval, joined, joined_before, listed, part_of_granule, is_marked, touches, granule_count}
+use Rattle.sx_extent.specs.Granules.{Entries, IsKept, file_of}
 use Rattle.sx_extent.proofs.FileLemmas.{file_length, mark_count}
 use Rattle.sx_extent.proofs.KeyLemmas.{keys_between}
 

@@ -14,8 +14,8 @@ use Rattle.std.proofs.lemmas.Map.Keys.{IsDistinct-from_sorted}
 use Rattle.std.proofs.lemmas.Map.Entries.{lookup-filter-keys}
 use Rattle.std.proofs.lemmas.Map.Made.{update_all_none, IsDistinct-keys_filter}
 use Rattle.std.proofs.lemmas.Bool.{cases_Bool, cond-true, cond-false, eqb-true, false_from_ne_true, lt-ltb, false≢true}
-use Rattle.sx_extent.specs.Views.{part}
-use Rattle.sx_extent.specs.GranuleMap.{Entries, granule_at, has_granule, byte_at, bytes_from, IsSized, IsKept, IsSame, is_between}
+use Rattle.sx_extent.specs.View.{part}
+use Rattle.sx_extent.specs.Granules.{Entries, granule_at, has_granule, byte_at, bytes_from, IsSized, IsKept, IsSame, is_between}
 use Rattle.sx_extent.proofs.GranuleLemmas.{same_bytes, length-bytes_from, get_or-bytes_from, bytes_from-same, none_when, inside}
 use Rattle.sx_extent.proofs.KeyLemmas.{range_test, at_is}
 

@@ -1,3 +1,3 @@
-pub mod SparseFile
-pub mod Views
-pub mod GranuleMap
+pub mod Ranges
+pub mod View
+pub mod Granules

@@ -3,23 +3,29 @@
 //! A granule has an entry exactly where it is marked, so a file of 4 TiB with one marked granule has one entry.
 //! Each call looks up the granules of its interval, or those that have an entry there, so it takes time in proportion
 //! to these and to the logarithm of the number of entries, and none of it for the file's length.
-ghost use Rattle.std.specs.Prelude.{◌≡◌, ◌+◌, ◌-◌, ◌*◌, ◌/◌, ◌%◌, ◌≤◌, ◌<◌, ℕ, Bool, true, false, not, ◌&&◌, if◌then◌else◌, nat_le, nat_lt, ◌==◌, replicate, length, filter, map, take, drop, ◌++◌, option_map, IfOk, IfSome, IfNone, OnOk, OnErr, IsTrue, None, Some};
+ghost use Rattle.std.specs.Prelude.{◌≡◌, ◌+◌, ◌-◌, ◌*◌, ◌/◌, ◌%◌, ◌≤◌, ◌<◌, ℕ, Bool, true, false, not, ◌&&◌};
+ghost use Rattle.std.specs.Prelude.{if◌then◌else◌, nat_le, nat_lt, ◌==◌, replicate, length, filter, map, take, drop};
+ghost use Rattle.std.specs.Prelude.{◌++◌, option_map, IfOk, IfSome, IfNone, OnOk, OnErr, IsTrue, None, Some};
 ghost use Rattle.std.specs.List.{range_with_len, list_any, All};
-ghost use Rattle.sx_extent.specs.SparseFile.{covers, touches, most_bytes, joined, part_of_granule};
-ghost use Rattle.sx_extent.specs.GranuleMap.{granule_at, has_granule, byte_at, bytes_from, IsSized, IsWritten, IsMarked, IsErased, IsKept, IsPut, IsSame, is_between};
+ghost use Rattle.sx_extent.specs.Ranges.{covers, touches, most_bytes, joined, part_of_granule};
+ghost use Rattle.sx_extent.specs.Granules.{granule_at, has_granule, byte_at, bytes_from, IsSized, IsWritten, IsUpdated};
+ghost use Rattle.sx_extent.specs.Granules.{IsMarked, IsErased, IsKept, IsPut, IsSame, is_between};
 ghost use Rattle.std.specs.Ordering.{nat_cmp};
 ghost use Rattle.std.specs.Map.{keys_of};
 ghost use Rattle.std.specs.BTreeMap.{IsOrdered};
 ghost use Rattle.std.specs.BTreeMap.Range.{entries_between};
 ghost use Rattle.std.specs.declared.ops.Bound.TheVariants.{Included, Excluded};
 
-use crate::NoMemory;
 use crate::spans::{Span, Spans};
 use std::alloc::{AllocError, Global};
 use std::collections::BTreeMap;
+use sx_memory::NoMemory;
+
+/// The most bytes that a file has, 4 TiB: the File service's greatest size of a file.
+pub const FILE_LIMIT: u64 = 4_398_046_511_104;
 
 /// How many bytes a granule has, as a length.
-const GRANULE_SIZE: usize = 512;
+pub const GRANULE_SIZE: usize = 512;
 
 /// How many bytes a granule has, as a number of places.
 pub(crate) const GRANULE: u64 = GRANULE_SIZE as u64;
@@ -43,7 +49,7 @@ pub(crate) fn past_of(from: u64, end: u64) -> u64
 }
 
 /// Whether a granule has an entry.
-#[tactic(auto, unfolding(crate::specs::GranuleMap::has_granule))]
+#[tactic(auto, unfolding(crate::specs::Granules::has_granule))]
 fn has(granules: &Granules, g: u64) -> bool
     ensures { result ≡ has_granule granules.now.entries g }
 {
@@ -74,7 +80,8 @@ fn overwrite(granules: &mut Granules, g: u64, offset: usize, bytes: &[u8])
     requires sized { IsSized granules.old.entries }
     requires marked { has_granule granules.old.entries g ≡ true }
     ensures { IsPut granules.old.entries granules.new.entries g
-        (option_map (λ kept. take offset kept ++ bytes.now ++ drop (offset + length bytes.now) kept) (granule_at granules.old.entries g)) }
+        (option_map (λ kept. take offset kept ++ bytes.now ++ drop (offset + length bytes.now) kept)
+        (granule_at granules.old.entries g)) }
 {
     if let Some(granule) = granules.get_mut(&g) {
         granule[offset..offset + bytes.len()].copy_from_slice(bytes);
@@ -164,10 +171,8 @@ pub(crate) fn mark(
     ensures err { OnErr result (IsSame granules.old.entries granules.new.entries) }
     ensures sized { IsSized granules.new.entries }
 {
-    match missing_between(granules, alloc, from / GRANULE, past_of(from, end)) {
-        Ok(missing) => add_all(granules, &missing),
-        Err(_) => Err(NoMemory),
-    }
+    let missing = missing_between(granules, alloc, from / GRANULE, past_of(from, end))?;
+    add_all(granules, &missing)
 }
 
 /// Writes bytes from `at` on, all of one granule that has an entry.
@@ -185,7 +190,8 @@ fn write_part(granules: &mut Granules, at: u64, bytes: &[u8])
 pub(crate) fn write(granules: &mut Granules, at: u64, bytes: &[u8])
     requires sized { IsSized granules.old.entries }
     requires limit { at + length bytes.now ≤ most_bytes }
-    requires marked { (g : ℕ) → touches at (at + length bytes.now) g ≡ true → has_granule granules.old.entries g ≡ true }
+    requires marked { (g : ℕ) → touches at (at + length bytes.now) g ≡ true
+        → has_granule granules.old.entries g ≡ true }
     ensures written { IsWritten granules.old.entries granules.new.entries at bytes.now }
     ensures sized { IsSized granules.new.entries }
 {
@@ -196,6 +202,24 @@ pub(crate) fn write(granules: &mut Granules, at: u64, bytes: &[u8])
         write_part(granules, place, &bytes[done..done + count]);
         done += count;
     }
+}
+
+/// Marks each granule that the bytes touch, and writes them from `at` on: all or nothing.
+pub(crate) fn put(
+    granules: &mut Granules,
+    alloc: Global,
+    at: u64,
+    bytes: &[u8],
+) -> Result<(), NoMemory>
+    requires sized { IsSized granules.old.entries }
+    requires limit { at + length bytes.now ≤ most_bytes }
+    ensures ok { OnOk result (IsUpdated granules.old.entries granules.new.entries at bytes.now) }
+    ensures err { OnErr result (IsSame granules.old.entries granules.new.entries) }
+    ensures sized { IsSized granules.new.entries }
+{
+    mark(granules, alloc, at, at + bytes.len() as u64)?;
+    write(granules, at, bytes);
+    Ok(())
 }
 
 /// The first granule with an entry from one to before another.
@@ -210,7 +234,7 @@ fn first_between(granules: &Granules, first: u64, past: u64) -> Option<u64>
 }
 
 /// Whether each byte of granule `g` that lies below the length lies in the interval.
-#[tactic(auto, unfolding(crate::specs::SparseFile::covers))]
+#[tactic(auto, unfolding(crate::specs::Ranges::covers))]
 fn is_covered(g: u64, from: u64, end: u64, length: u64) -> bool
     requires { 512 * g < most_bytes }
     ensures { result ≡ covers from end length g }

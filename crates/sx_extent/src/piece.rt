@@ -1,14 +1,18 @@
 //! The bytes of one update.
 ghost use Rattle.std.specs.Prelude.{◌≡◌, ◌≤◌, ◌<◌, List, ℕ, IfOk, length};
 ghost use Rattle.std.specs.Arc.{arc_value};
+ghost use Rattle.sx_extent.specs.declared.piece.TheConstants.{PIECE_LIMIT};
 
-use crate::NoMemory;
 use std::alloc::Global;
 use std::marker::Model;
 use std::sync::Arc;
+use sx_memory::NoMemory;
 
-/// Bytes that are written by one update, 1 to 4,194,304 of them (4 MiB, the most that one Put Range takes). A piece never changes,
-/// so its copies share its bytes.
+/// The most bytes that one Put Range writes, 4 MiB.
+pub const PIECE_LIMIT: usize = 4_194_304;
+
+/// Bytes that are written by one update, 1 to 4,194,304 of them (4 MiB, the most that one Put Range takes). A piece
+/// never changes, so its copies share its bytes.
 #[derive(Debug, Drop)]
 pub struct Piece {
     shared: Arc<Vec<u8>, Global>,
@@ -19,27 +23,26 @@ impl Model for Piece {
 
     ghost view = { λ p. (arc_value p.shared).items };
 
-    ghost invariant = { λ p. (0 < length (arc_value p.shared).items) × (length (arc_value p.shared).items ≤ 4_194_304) };
+    ghost invariant = { λ p.
+        (0 < length (arc_value p.shared).items) × (length (arc_value p.shared).items ≤ PIECE_LIMIT) };
 }
 
 impl Piece {
     /// A piece of these bytes.
     pub fn of(alloc: Global, bytes: Vec<u8>) -> Result<Piece, NoMemory>
         requires least { 0 < length bytes.items }
-        requires most { length bytes.items ≤ 4_194_304 }
+        requires most { length bytes.items ≤ PIECE_LIMIT }
         ensures { IfOk result (λ piece. piece ≡ bytes.items) }
     {
-        match Arc::new(alloc, bytes) {
-            Ok(shared) => Ok(Piece { shared }),
-            Err(_) => Err(NoMemory),
-        }
+        let shared = Arc::new(alloc, bytes)?;
+        Ok(Piece { shared })
     }
 
     /// The bytes.
     pub fn bytes(&self) -> &[u8]
         ensures value { result.now ≡ self.now }
         ensures least { 0 < length self.now }
-        ensures most { length self.now ≤ 4_194_304 }
+        ensures most { length self.now ≤ PIECE_LIMIT }
     {
         self.shared.as_slice()
     }
@@ -48,10 +51,8 @@ impl Piece {
     pub fn copy(&self) -> Result<Piece, NoMemory>
         ensures { IfOk result (λ piece. piece ≡ self.now) }
     {
-        match Arc::try_clone(&self.shared) {
-            Ok(shared) => Ok(Piece { shared }),
-            Err(_) => Err(NoMemory),
-        }
+        let shared = Arc::try_clone(&self.shared)?;
+        Ok(Piece { shared })
     }
 }
 

@@ -1,10 +1,10 @@
 //! Half-open intervals of bytes, and lists of them.
 ghost use Rattle.std.specs.Prelude.{◌≡◌, ◌==◌, List, [], ◌∷◌, ◌++◌, length, OnOk, OnErr};
-ghost use Rattle.sx_extent.specs.SparseFile.{Interval, joined};
+ghost use Rattle.sx_extent.specs.Ranges.{Interval, joined};
 
-use crate::NoMemory;
 use std::alloc::Global;
 use std::marker::Model;
+use sx_memory::NoMemory;
 
 /// The bytes from `from` to before `end`, at least one.
 #[derive(Clone, Copy, Debug, PartialEq, Eq)]
@@ -17,7 +17,7 @@ pub struct Span {
 
 impl Model for Span {
     ghost use Rattle.std.specs.Prelude.{◌<◌};
-    ghost use Rattle.sx_extent.specs.SparseFile.{Interval};
+    ghost use Rattle.sx_extent.specs.Ranges.{Interval};
 
     ghost Value = { Interval };
 
@@ -36,7 +36,7 @@ pub struct Spans {
 
 impl Model for Spans {
     ghost use Rattle.std.specs.Prelude.{List};
-    ghost use Rattle.sx_extent.specs.SparseFile.{Interval};
+    ghost use Rattle.sx_extent.specs.Ranges.{Interval};
 
     ghost Value = { List Interval };
 
@@ -87,7 +87,8 @@ impl Spans {
 
     /// Puts a span at the end, or makes the last span longer by it where the two meet.
     pub(crate) fn join(&mut self, span: Span) -> Result<(), NoMemory>
-        ensures ok { OnOk result ((spans : List Interval) → self.old ≡ joined spans → self.new ≡ joined (spans ++ span ∷ [])) }
+        ensures ok { OnOk result ((spans : List Interval) → self.old ≡ joined spans
+            → self.new ≡ joined (spans ++ span ∷ [])) }
         ensures err { OnErr result (self.new ≡ self.old) }
     {
         let count = self.items.len();
@@ -109,11 +110,13 @@ impl PartialEq for Spans {
     ghost use Rattle.std.specs.Prelude.{nat_eq, ◌&&◌};
     ghost use Rattle.std.specs.Cmp.{on_per, and_per, partial_equiv_from_equiv, nat_eq_equiv};
     ghost use Rattle.std.specs.Cmp.Lexicographic.{pointwise, lists_per};
-    ghost use Rattle.sx_extent.specs.SparseFile.{Interval};
+    ghost use Rattle.sx_extent.specs.Ranges.{Interval};
 
     ghost eq = { pointwise (λ (a b : Interval). nat_eq a.from b.from && nat_eq a.end b.end) };
 
-    ghost laws = { lists_per (and_per (on_per (λ (a : Interval). a.from) (partial_equiv_from_equiv nat_eq_equiv)) (on_per (λ (a : Interval). a.end) (partial_equiv_from_equiv nat_eq_equiv))) };
+    ghost laws = { lists_per (and_per
+        (on_per (λ (a : Interval). a.from) (partial_equiv_from_equiv nat_eq_equiv))
+        (on_per (λ (a : Interval). a.end) (partial_equiv_from_equiv nat_eq_equiv))) };
 
     fn eq(&self, other: &Spans) -> bool {
         self.as_slice() == other.as_slice()
@@ -123,7 +126,9 @@ impl PartialEq for Spans {
 impl Eq for Spans {
     ghost use Rattle.std.specs.Cmp.{on_equiv, and_equiv, nat_eq_equiv};
     ghost use Rattle.std.specs.Cmp.Lexicographic.{lists_equiv};
-    ghost use Rattle.sx_extent.specs.SparseFile.{Interval};
+    ghost use Rattle.sx_extent.specs.Ranges.{Interval};
 
-    ghost laws = { lists_equiv (and_equiv (on_equiv (λ (a : Interval). a.from) nat_eq_equiv) (on_equiv (λ (a : Interval). a.end) nat_eq_equiv)) };
+    ghost laws = { lists_equiv (and_equiv
+        (on_equiv (λ (a : Interval). a.from) nat_eq_equiv)
+        (on_equiv (λ (a : Interval). a.end) nat_eq_equiv)) };
 }

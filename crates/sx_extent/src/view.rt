@@ -1,8 +1,8 @@
 //! Views of a file.
 ghost use Rattle.std.specs.Prelude.{◌≡◌, ◌+◌, ◌≤◌, length};
-ghost use Rattle.sx_extent.specs.SparseFile.{most_bytes};
-ghost use Rattle.sx_extent.specs.Views.{part};
-ghost use Rattle.sx_extent.specs.GranuleMap.{IsSized, bytes_from};
+ghost use Rattle.sx_extent.specs.Ranges.{most_bytes};
+ghost use Rattle.sx_extent.specs.View.{part};
+ghost use Rattle.sx_extent.specs.Granules.{IsSized, bytes_from};
 
 use crate::granules::{self, Granules};
 use std::marker::Model;
@@ -17,7 +17,7 @@ pub struct View {
 
 impl Model for View {
     ghost use Rattle.std.specs.Prelude.{List, ℕ};
-    ghost use Rattle.sx_extent.specs.GranuleMap.{bytes_from, IsShown};
+    ghost use Rattle.sx_extent.specs.Granules.{bytes_from, IsShown};
 
     ghost Value = { List ℕ };
 

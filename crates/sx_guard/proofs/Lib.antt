@@ -3,3 +3,5 @@ pub mod Places
 pub mod Orders
 pub mod Kept
 pub mod Views
+pub mod Parts
+pub mod AllLocks

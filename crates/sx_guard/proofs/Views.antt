@@ -1,6 +1,6 @@
 -- An ordered list seen through a map or a filter, as a file's opens are of the opens of all files.
-use Rattle.std.proofs.Common.{◌≡◌, Bool, true, false, if◌then◌else◌, List, [], ◌∷◌, Some, All, AllPairs, filter, find, map, option_map, refl, ap, sym, ◌∙◌}
-use Rattle.std.proofs.lemmas.List.Elements.{All-cons, All-filter, All-head, All-weaker}
+use Rattle.std.proofs.Common.{◌≡◌, Bool, true, false, if◌then◌else◌, List, [], ◌∷◌, Some, All, AllPairs, ◌++◌, filter, find, map, option_map, refl, ap, sym, ◌∙◌}
+use Rattle.std.proofs.lemmas.List.Elements.{All-cons, All-filter, All-head, All-nil, All-tail, All-weaker}
 use Rattle.sx_guard.specs.Ordered.{insert_by}
 use Rattle.sx_guard.proofs.Pairs.{AllPairs-head, AllPairs-tail}
 
@@ -24,10 +24,32 @@ insert_by-map f before x (y ∷ ys) =
       | false ↦ ap (λ zs. f y ∷ zs) (insert_by-map f before x ys)
     ]
 
+-- an insert by two orders that agree on the items that are there
+pub insert_by-same : {X : Type 0} (before within : X → X → Bool) (x : X) (xs : List X) → All (λ y. before x y ≡ within x y) xs → insert_by before x xs ≡ insert_by within x xs
+insert_by-same before within x [] same = refl
+insert_by-same {X = X} before within x (y ∷ ys) same =
+    ap (λ (c : Bool × List X). if c.0 then x ∷ y ∷ ys else y ∷ c.1)
+    (λ j. (All-head (λ z. before x z ≡ within x z) y ys same j, insert_by-same before within x ys (All-tail (λ z. before x z ≡ within x z) y ys same) j))
+
 -- an insert in front of all
 pub insert_by-front : {X : Type 0} (before : X → X → Bool) (x : X) (xs : List X) → All (λ y. before x y ≡ true) xs → insert_by before x xs ≡ x ∷ xs
 insert_by-front before x [] all = refl
 insert_by-front before x (y ∷ ys) all = rw (All-head (λ z. before x z ≡ true) y ys all)
+
+-- an insert into two lists, the items of the second of which come after it
+pub insert_by-within : {X : Type 0} (before : X → X → Bool) (x : X) (xs ys : List X) → All (λ y. before x y ≡ true) ys → insert_by before x (xs ++ ys) ≡ insert_by before x xs ++ ys
+insert_by-within before x [] ys after = insert_by-front before x ys after
+insert_by-within before x (z ∷ zs) ys after = insert_into before x z zs ys (before x z) (insert_by-within before x zs ys after)
+  where
+    insert_into : {W : Type 0} (before : W → W → Bool) (x z : W) (zs ys : List W) (b : Bool) → insert_by before x (zs ++ ys) ≡ insert_by before x zs ++ ys
+        → (if b then x ∷ z ∷ (zs ++ ys) else z ∷ insert_by before x (zs ++ ys)) ≡ (if b then x ∷ z ∷ zs else z ∷ insert_by before x zs) ++ ys
+    insert_into before x z zs ys true e = refl
+    insert_into before x z zs ys false e = ap (λ ws. z ∷ ws) e
+
+-- an insert into two lists, before none of the first of which it comes
+pub insert_by-behind : {X : Type 0} (before : X → X → Bool) (x : X) (xs ys : List X) → All (λ y. before x y ≡ false) xs → insert_by before x (xs ++ ys) ≡ xs ++ insert_by before x ys
+insert_by-behind before x [] ys none = refl
+insert_by-behind before x (z ∷ zs) ys none = rw (All-head (λ y. before x y ≡ false) z zs none) (ap (λ ws. z ∷ ws) (insert_by-behind before x zs ys (All-tail (λ y. before x y ≡ false) z zs none)))
 
 -- an insert, and then a filter, in a list that is in order
 pub insert_by-filter : {X : Type 0} (keep : X → Bool) (R : X → X → Type 0) (before : X → X → Bool) (x : X) (xs : List X)
@@ -58,3 +80,12 @@ insert_by-filter keep R before x (y ∷ ys) past pairs =
             ≡ (if k then (if before x y then x ∷ y ∷ filter keep ys else y ∷ insert_by before x (filter keep ys)) else y ∷ filter keep ys)
         kept true f = rw f
         kept false f = refl
+
+-- what is left by a filter passes its test
+kept_by_test : {X : Type 0} (keep : X → Bool) (x : X) (xs : List X) (k : Bool) → keep x ≡ k → All (λ y. keep y ≡ true) (filter keep xs) → All (λ y. keep y ≡ true) (if k then x ∷ filter keep xs else filter keep xs)
+kept_by_test keep x xs true is all = All-cons (λ y. keep y ≡ true) x (filter keep xs) is all
+kept_by_test keep x xs false is all = all
+
+pub All-kept : {X : Type 0} (keep : X → Bool) (xs : List X) → All (λ y. keep y ≡ true) (filter keep xs)
+All-kept keep [] = All-nil (λ y. keep y ≡ true)
+All-kept keep (x ∷ xs) = kept_by_test keep x xs (keep x) refl (All-kept keep xs)

@@ -1,4 +1,7 @@
 pub mod Ordered
-pub mod Handles
-pub mod ShareModes
-pub mod LockConflict
+pub mod Parts
+pub mod Handle
+pub mod Access
+pub mod Sharing
+pub mod Locks
+pub mod AllLocks

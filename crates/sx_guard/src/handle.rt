@@ -1,43 +1,65 @@
-ghost use Rattle.std.specs.Prelude.{◌≡◌};
-ghost use Rattle.sx_guard.specs.ShareModes.{exceeds, is_empty};
+//! The identity of an open handle, from the session that opened it and its index there, both from 1.
+ghost use Rattle.std.specs.Prelude.{◌≡◌, ◌≤◌};
 
-/// The identity of an open handle: the session that opened it and the handle's index in that session, both from 1.
+use std::marker::Model;
+
+/// The identity of an open handle ([MS-SMB2], "FileId"): the session that opened it and the handle's index in that
+/// session.
 ///
-/// Handles are ordered by session, then index, and are printed `SESSION.INDEX`.
+/// Both count from 1. Handles are ordered by session, then index, and are printed `SESSION.INDEX`.
 #[derive(Clone, Copy, Debug, PartialEq, Eq, PartialOrd, Ord)]
 pub struct HandleId {
+    /// The session's number, from 1.
     pub session: u32,
+    /// The index of the open in its session, from 1.
     pub index: u32,
 }
 
-/// The rights that an open asks for: any set of read, write and delete.
-#[derive(Clone, Copy, Debug, PartialEq, Eq)]
-pub struct Access {
-    pub read: bool,
-    pub write: bool,
-    pub delete: bool,
+impl Model for HandleId {
+    ghost use Rattle.std.specs.Prelude.{◌≤◌};
+    ghost use Rattle.sx_guard.specs.Handle.{Handle};
+
+    ghost Value = { Handle };
+
+    ghost view = { λ h. record { session = h.session; index = h.index } };
+
+    ghost inverse = { λ h. record { session = h.session; index = h.index } };
+
+    ghost invariant = { λ h. (1 ≤ h.session) × (1 ≤ h.index) };
 }
 
-/// The share mode of an open: the rights that it leaves to others, any set of read, write and delete.
-#[derive(Clone, Copy, Debug, PartialEq, Eq)]
-pub struct Mode {
-    pub read: bool,
-    pub write: bool,
-    pub delete: bool,
+/// The index of an open in its session, from 1. Contracts see the number.
+#[derive(Clone, Copy, Debug, PartialEq, Eq, PartialOrd, Ord)]
+pub struct HandleIndex {
+    number: u32,
 }
 
-impl Access {
-    /// Whether no right is asked for.
-    pub fn is_empty(self) -> bool
-        ensures { result ≡ is_empty self }
+impl Model for HandleIndex {
+    ghost use Rattle.std.specs.Prelude.{ℕ, ◌≤◌};
+
+    ghost Value = { ℕ };
+
+    ghost view = { λ i. i.number };
+
+    ghost inverse = { λ n. record { number = n } };
+
+    ghost invariant = { λ i. 1 ≤ i.number };
+}
+
+impl HandleIndex {
+    /// The index of this number.
+    pub fn of(number: u32) -> HandleIndex
+        requires { 1 ≤ number }
+        ensures { result ≡ number }
     {
-        !self.read && !self.write && !self.delete
+        HandleIndex { number }
     }
 
-    /// Whether there is a right here that the share mode leaves to nobody else.
-    pub fn exceeds(self, mode: Mode) -> bool
-        ensures { result ≡ exceeds self mode }
+    /// The number, at least 1.
+    pub fn number(self) -> u32
+        ensures value { result ≡ self }
+        ensures least { 1 ≤ result }
     {
-        self.read && !mode.read || self.write && !mode.write || self.delete && !mode.delete
+        self.number
     }
 }

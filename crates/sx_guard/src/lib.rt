@@ -1,14 +1,15 @@
 //! Open handles, their access and share modes, and their byte-range locks.
 #![tactic(auto)]
 
+mod access;
 mod handle;
 mod locks;
-mod memory;
+mod ordered;
 mod sharing;
-#[cfg(test)]
-mod tests;
 
-pub use handle::{Access, HandleId, Mode};
+pub use access::{Access, Mode};
+pub use handle::{HandleId, HandleIndex};
 pub use locks::{Held, LockFault, Locks};
-pub use memory::NoMemory;
+pub use ordered::{Ordered, insert_ordered};
 pub use sharing::{Opened, Sharing};
+pub use sx_memory::NoMemory;

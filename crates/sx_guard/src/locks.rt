@@ -1,20 +1,41 @@
-ghost use Rattle.std.specs.Prelude.{◌≡◌, ◌↔◌, ◌≤◌, ◌<◌, ◌∷◌, [], false, not, All, IfNone, IfSome, IsOkUnless, IsTrue, List, MatchOption, OnErr, OnOk, Some, filter, find, length, position};
+//! The byte-range locks of one file, and what they forbid.
+ghost use Rattle.std.specs.Prelude.{◌≡◌, ◌↔◌, ◌≤◌, ◌<◌, ◌∷◌, [], false, not, All, IfNone, IfSome, IsOkUnless, IsTrue};
+ghost use Rattle.std.specs.Prelude.{List, MatchOption, OnErr, OnOk, Some, filter, find, length, position};
 ghost use Rattle.std.specs.List.{list_any, position_or_len};
 ghost use Rattle.sx_guard.specs.Ordered.{IsLeast, insert_by, remove_first};
-ghost use Rattle.sx_guard.specs.LockConflict.{AreLocks, forbids_lock, forbids_read, forbids_write, is_held_by, is_lock, lock_before, meets, SharesByte};
+ghost use Rattle.sx_guard.specs.Locks.{AreLocks, forbids_lock, forbids_read, forbids_write, is_held_by, is_lock};
+ghost use Rattle.sx_guard.specs.Locks.{lock_before, overlaps, SharesByte};
 
 use crate::handle::HandleId;
-use crate::memory::NoMemory;
+use crate::ordered::{Ordered, insert_ordered};
 use std::alloc::Global;
 use std::marker::Model;
+use sx_memory::NoMemory;
 
-/// A byte-range lock: the handle that holds it, its bytes from `from` up to below `end`, and its kind, exclusive or shared.
+/// A byte-range lock: the handle that holds it, its bytes, at least one, and its kind.
 #[derive(Clone, Copy, Debug, PartialEq, Eq)]
 pub struct Held {
+    /// The handle that holds it.
     pub handle: HandleId,
+    /// The place of the first byte.
     pub from: u64,
+    /// The place past the last byte, above `from`.
     pub end: u64,
+    /// Whether it is exclusive; else it is shared.
     pub exclusive: bool,
+}
+
+impl Model for Held {
+    ghost use Rattle.std.specs.Prelude.{◌<◌};
+    ghost use Rattle.sx_guard.specs.Locks.{RangeLock};
+
+    ghost Value = { RangeLock };
+
+    ghost view = { λ l. record { handle = l.handle; from = l.from; end = l.end; exclusive = l.exclusive } };
+
+    ghost inverse = { λ l. record { handle = l.handle; from = l.from; end = l.end; exclusive = l.exclusive } };
+
+    ghost invariant = { λ l. l.from < l.end };
 }
 
 /// Why a lock isn't granted.
@@ -28,8 +49,8 @@ pub enum LockFault {
 
 impl Held {
     /// Whether this lock shares a byte with an interval. An empty interval has none to share.
-    pub fn meets(&self, from: u64, end: u64) -> bool
-        ensures test { result ≡ meets from end self.now }
+    pub fn overlaps(&self, from: u64, end: u64) -> bool
+        ensures test { result ≡ overlaps from end self.now }
         ensures byte { IsTrue result ↔ SharesByte from end self.now }
     {
         from.max(self.from) < end.min(self.end)
@@ -42,34 +63,25 @@ impl Held {
         by.is_some_and(|handle| handle == self.handle)
     }
 
-    /// Whether this lock comes before another: by handle, then by start, then by end.
-    fn comes_before(&self, other: &Held) -> bool
-        ensures { result ≡ lock_before self.now other.now }
-    {
-        self.handle < other.handle
-            || self.handle == other.handle
-                && (self.from < other.from || self.from == other.from && self.end < other.end)
-    }
-
     /// Whether this lock forbids a read by a handle, or by none.
     fn forbids_read(&self, by: Option<HandleId>, from: u64, end: u64) -> bool
         ensures { result ≡ forbids_read by from end self.now }
     {
-        self.meets(from, end) && self.exclusive && !self.is_held_by(by)
+        self.overlaps(from, end) && self.exclusive && !self.is_held_by(by)
     }
 
     /// Whether this lock forbids a write by a handle, or by none.
     fn forbids_write(&self, by: Option<HandleId>, from: u64, end: u64) -> bool
         ensures { result ≡ forbids_write by from end self.now }
     {
-        self.meets(from, end) && (!self.exclusive || !self.is_held_by(by))
+        self.overlaps(from, end) && (!self.exclusive || !self.is_held_by(by))
     }
 
     /// Whether this lock forbids a new one of a kind, whoever holds it.
     fn forbids_lock(&self, exclusive: bool, from: u64, end: u64) -> bool
         ensures { result ≡ forbids_lock exclusive from end self.now }
     {
-        self.meets(from, end) && (exclusive || self.exclusive)
+        self.overlaps(from, end) && (exclusive || self.exclusive)
     }
 
     /// Whether this is a handle's lock on exactly this interval and of this kind.
@@ -80,10 +92,21 @@ impl Held {
     }
 }
 
+impl Ordered for Held {
+    ghost before = { lock_before };
+
+    fn comes_before(&self, other: &Held) -> bool {
+        self.handle < other.handle
+            || self.handle == other.handle
+                && (self.from < other.from || self.from == other.from && self.end < other.end)
+    }
+}
+
 /// The byte-range locks of one file, in order of handle, start and end. Contracts see it as the list of them.
 ///
-/// The rules are those of "Managing file locks in Azure Files" and of SMB's byte-range locks: exclusive locks keep others from
-/// reading and writing, shared locks keep everybody from writing. A REST call holds no lock and comes by no handle.
+/// The rules are those of "Managing file locks in Azure Files" and of SMB's byte-range locks: exclusive locks keep
+/// others from reading and writing, shared locks keep everybody from writing. A REST call holds no lock and comes by
+/// no handle.
 #[derive(Debug, Drop)]
 pub struct Locks {
     locks: Vec<Held>,
@@ -91,10 +114,9 @@ pub struct Locks {
 
 impl Model for Locks {
     ghost use Rattle.std.specs.Prelude.{List};
-    ghost use Rattle.sx_guard.specs.declared.locks.Held.{Held};
-    ghost use Rattle.sx_guard.specs.LockConflict.{AreLocks};
+    ghost use Rattle.sx_guard.specs.Locks.{RangeLock, AreLocks};
 
-    ghost Value = { List Held };
+    ghost Value = { List RangeLock };
 
     ghost view = { λ s. s.locks.items };
 
@@ -119,8 +141,8 @@ impl Locks {
         self.locks.len() as u64
     }
 
-    /// The lock that forbids a read of an interval by a handle, or by a call that comes by none: an exclusive lock of another handle.
-    /// Of several it is the one with the least handle, then start, then end.
+    /// The lock that forbids a read of an interval by a handle, or by a call that comes by none: an exclusive lock of
+    /// another handle. Of several it is the one with the least handle, then start, then end.
     pub fn forbids_read(&self, by: Option<HandleId>, from: u64, end: u64) -> Option<Held>
         ensures first { result ≡ find (forbids_read by from end) self.now }
         ensures least { IfSome result (IsLeast lock_before (forbids_read by from end) self.now) }
@@ -132,8 +154,8 @@ impl Locks {
             .copied()
     }
 
-    /// The lock that forbids a write of an interval by a handle, or by a call that comes by none: a lock of another handle, or a
-    /// shared one of its own. Of several it is the one with the least handle, then start, then end.
+    /// The lock that forbids a write of an interval by a handle, or by a call that comes by none: a lock of another
+    /// handle, or a shared one of its own. Of several it is the one with the least handle, then start, then end.
     pub fn forbids_write(&self, by: Option<HandleId>, from: u64, end: u64) -> Option<Held>
         ensures first { result ≡ find (forbids_write by from end) self.now }
         ensures least { IfSome result (IsLeast lock_before (forbids_write by from end) self.now) }
@@ -145,9 +167,10 @@ impl Locks {
             .copied()
     }
 
-    /// Locks an interval for a handle: a shared lock where it meets no exclusive one, an exclusive lock where it meets none, the
-    /// handle's own included. Else it answers Meets, with the lock in the way that has the least handle, then start, then end.
-    /// NoMemory comes only where the lock would be granted. After either answer the locks are as before.
+    /// Locks an interval for a handle: a shared lock where it meets no exclusive one, an exclusive lock where it
+    /// meets none, the handle's own included. Else it answers Meets, with the lock in the way that has the least
+    /// handle, then start, then end. NoMemory comes only where the lock would be granted. After either answer the
+    /// locks are as before.
     pub fn lock(
         &mut self,
         by: HandleId,
@@ -175,10 +198,9 @@ impl Locks {
             end,
             exclusive,
         };
-        let at = place_for(&self.locks, &lock);
-        match self.locks.insert(at, lock) {
+        match insert_ordered(&mut self.locks, lock) {
             Ok(()) => Ok(()),
-            Err(_) => Err(LockFault::NoMemory),
+            Err(NoMemory) => Err(LockFault::NoMemory),
         }
     }
 
@@ -223,15 +245,4 @@ fn place_of(locks: &[Held], by: HandleId, from: u64, end: u64, exclusive: bool) 
     locks
         .iter()
         .position(|l| l.is_lock(by, from, end, exclusive))
-}
-
-/// The place of the first lock that comes after this one, or the end.
-fn place_for(locks: &[Held], lock: &Held) -> usize
-    ensures place { result ≡ position_or_len (lock_before lock.now) locks.now }
-    ensures within { result ≤ length locks.now }
-{
-    locks
-        .iter()
-        .position(|l| lock.comes_before(l))
-        .unwrap_or(locks.len())
 }

@@ -1,19 +1,27 @@
-ghost use Rattle.std.specs.Prelude.{◌≡◌, ◌≤◌, ◌∷◌, [], true, false, not, All, Any, IfNone, IfSome, IsTrue, List, OnErr, OnOk, filter, length, position};
+//! The opens of one file or directory, and when they forbid a new one.
+ghost use Rattle.std.specs.Prelude.{◌≡◌, ◌≤◌, ◌∷◌, [], true, false, not, All, Any, IfNone, IfSome, IsTrue, List, OnErr};
+ghost use Rattle.std.specs.Prelude.{OnOk, filter, length, position};
 ghost use Rattle.std.specs.List.{list_any, position_or_len};
-ghost use Rattle.sx_guard.specs.Handles.{handle_before};
+ghost use Rattle.sx_guard.specs.Handle.{handle_before};
 ghost use Rattle.sx_guard.specs.Ordered.{insert_by, remove_first};
-ghost use Rattle.sx_guard.specs.ShareModes.{AreOpens, IsLeastHandle, first_handle, forbids, has_handle, may_change, opened_before};
+ghost use Rattle.sx_guard.specs.Sharing.{AreOpens, IsLeastHandle, first_handle, forbids, is_changing, is_open_of};
+ghost use Rattle.sx_guard.specs.Sharing.{open_before};
 
-use crate::handle::{Access, HandleId, Mode};
-use crate::memory::NoMemory;
+use crate::access::{Access, Mode};
+use crate::handle::HandleId;
+use crate::ordered::{Ordered, insert_ordered};
 use std::alloc::Global;
 use std::marker::Model;
+use sx_memory::NoMemory;
 
 /// An open of a file or directory: its handle, the rights that it has and the rights that it leaves to others.
 #[derive(Clone, Copy, Debug, PartialEq, Eq)]
 pub struct Opened {
+    /// The handle that was opened.
     pub handle: HandleId,
+    /// The rights that it has.
     pub access: Access,
+    /// The rights that it leaves to others.
     pub mode: Mode,
 }
 
@@ -28,10 +36,18 @@ impl Opened {
     }
 }
 
+impl Ordered for Opened {
+    ghost before = { open_before };
+
+    fn comes_before(&self, other: &Opened) -> bool {
+        self.handle < other.handle
+    }
+}
+
 /// The opens of one file or directory, in order of handle. Contracts see it as the list of them.
 ///
-/// The rule is SMB's for share modes: an open and a new one can stand together where each has only rights that the other's share
-/// mode leaves to others. An open that asks for no right stands beside any other.
+/// The rule is SMB's for share modes: an open and a new one can stand together where each has only rights that the
+/// other's share mode leaves to others. An open that asks for no right stands beside any other.
 #[derive(Debug, Drop)]
 pub struct Sharing {
     opens: Vec<Opened>,
@@ -40,7 +56,7 @@ pub struct Sharing {
 impl Model for Sharing {
     ghost use Rattle.std.specs.Prelude.{List};
     ghost use Rattle.sx_guard.specs.declared.sharing.Opened.{Opened};
-    ghost use Rattle.sx_guard.specs.ShareModes.{AreOpens};
+    ghost use Rattle.sx_guard.specs.Sharing.{AreOpens};
 
     ghost Value = { List Opened };
 
@@ -67,30 +83,35 @@ impl Sharing {
         self.opens.len() as u64
     }
 
+    /// Whether a handle has an open here.
+    pub fn has(&self, handle: HandleId) -> bool
+        ensures { result ≡ list_any (is_open_of handle) self.now }
+    {
+        self.opens.iter().any(|o| handle == o.handle)
+    }
+
     /// Adds the open of a handle that has none here, at its place in the order. Without memory there is no change.
     pub fn add(&mut self, handle: HandleId, access: Access, mode: Mode) -> Result<(), NoMemory>
-        requires { list_any (has_handle handle) self.old ≡ false }
-        ensures ok { OnOk result (self.new ≡ insert_by opened_before
+        requires { list_any (is_open_of handle) self.old ≡ false }
+        ensures ok { OnOk result (self.new ≡ insert_by open_before
             (record { handle = handle; access = access; mode = mode }) self.old) }
         ensures err { OnErr result (self.new ≡ self.old) }
     {
-        let at = place_for(&self.opens, handle);
-        let open = Opened {
-            handle,
-            access,
-            mode,
-        };
-        match self.opens.insert(at, open) {
-            Ok(()) => Ok(()),
-            Err(_) => Err(NoMemory),
-        }
+        insert_ordered(
+            &mut self.opens,
+            Opened {
+                handle,
+                access,
+                mode,
+            },
+        )
     }
 
     /// Removes the open of a handle, and says whether there was one.
     pub fn remove(&mut self, handle: HandleId) -> bool
-        ensures there { result ≡ list_any (has_handle handle) self.old }
-        ensures one { self.new ≡ remove_first (has_handle handle) self.old }
-        ensures others { self.new ≡ filter (λ o. not (has_handle handle o)) self.old }
+        ensures there { result ≡ list_any (is_open_of handle) self.old }
+        ensures one { self.new ≡ remove_first (is_open_of handle) self.old }
+        ensures others { self.new ≡ filter (λ o. not (is_open_of handle o)) self.old }
     {
         match place_of(&self.opens, handle) {
             Some(at) => {
@@ -115,9 +136,9 @@ impl Sharing {
 
     /// The least handle whose open has write or delete, if any has.
     pub fn changing(&self) -> Option<HandleId>
-        ensures first { result ≡ first_handle may_change self.now }
-        ensures least { IfSome result (IsLeastHandle may_change self.now) }
-        ensures none { IfNone result (All (λ o. may_change o ≡ false) self.now) }
+        ensures first { result ≡ first_handle is_changing self.now }
+        ensures least { IfSome result (IsLeastHandle is_changing self.now) }
+        ensures none { IfNone result (All (λ o. is_changing o ≡ false) self.now) }
     {
         self.opens
             .iter()
@@ -128,18 +149,7 @@ impl Sharing {
 
 /// The place of a handle's open.
 fn place_of(opens: &[Opened], handle: HandleId) -> Option<usize>
-    ensures { result ≡ position (has_handle handle) opens.now }
+    ensures { result ≡ position (is_open_of handle) opens.now }
 {
     opens.iter().position(|o| handle == o.handle)
-}
-
-/// The place of the first open whose handle comes after this one, or the end.
-fn place_for(opens: &[Opened], handle: HandleId) -> usize
-    ensures place { result ≡ position_or_len (λ o. handle_before handle o.handle) opens.now }
-    ensures within { result ≤ length opens.now }
-{
-    opens
-        .iter()
-        .position(|o| handle < o.handle)
-        .unwrap_or(opens.len())
 }

@@ -1,10 +1,10 @@
--- At most one request begins at a place.
-use Rattle.std.proofs.Common.{ℕ, ◌≡◌, List, ◌++◌, length, take, sym, ap, ◌∙◌, subst}
+-- At most one head, and at most one request, begins at a place.
+use Rattle.std.proofs.Common.{ℕ, ◌≡◌, List, [], ◌++◌, length, take, sym, ap, ◌∙◌, subst}
 use Rattle.std.proofs.Math.Seq.{take-append_seam}
 use Rattle.httparse.specs.Grammar.{RequestHead, print_request, ReadsRequest}
 use Rattle.httparse.proofs.GrammarLemmas.{request_unique, ReadsRequest-append}
-use Rattle.sx_http.specs.Heads.{head_of}
-use Rattle.sx_http.specs.Framings.{framing_of}
+use Rattle.sx_http.specs.Heads.{head_of, IsHead}
+use Rattle.sx_http.specs.Framing.{framing_of}
 use Rattle.sx_http.specs.RequestStream.{IsRequest}
 use Rattle.sx_http.specs.declared.heads.Head.{Head}
 use Rattle.sx_http.specs.declared.heads.Request.{Request}
@@ -37,3 +37,10 @@ determined a b text other rest more x y e =
     let body : a.body ≡ b.body = same_front a.body b.body rest more size same.1 in
     let front : print_request x.tree ≡ print_request y.tree = ap (λ (t : RequestHead). print_request t) same.0 in
     (x.reads.1 ∙ (λ i. front i ++ body i) ∙ sym y.reads.1, λ i. record { head = head i; body = body i })
+
+pub heads_determined : (a b : Head) (text other rest more : List ℕ) → IsHead text a → IsHead other b → text ++ rest ≡ other ++ more → (text ≡ other) × (a ≡ b)
+heads_determined a b text other rest more x y e =
+    let mine = ReadsRequest-append text x.tree [] rest x.reads in
+    let yours = subst (λ (bs : List ℕ). ReadsRequest bs y.tree ([] ++ more)) (sym e) (ReadsRequest-append other y.tree [] more y.reads) in
+    let same = request_unique (text ++ rest) x.tree y.tree ([] ++ rest) ([] ++ more) mine yours in
+    (x.reads.1 ∙ ap (λ (t : RequestHead). print_request t ++ []) same.0 ∙ sym y.reads.1, x.is ∙ ap (λ (t : RequestHead). head_of t) same.0 ∙ sym y.is)

@@ -11,7 +11,7 @@ use Rattle.std.proofs.lemmas.List.Sums.{AllPass-from_list_all}
 use Rattle.std.proofs.lemmas.Str.{IsUtf8-from_ascii}
 use Rattle.std.proofs.lemmas.Str.Ascii.{IsAscii-from_all}
 use Rattle.std.proofs.lemmas.Str.Parse.{numerals_by_value, tells_by_index, without_leading_plus_none}
-use Rattle.sx_http.specs.Framings.{is_number, number_of}
+use Rattle.sx_http.specs.Framing.{is_number, number_of}
 
 digit_is : (b : ℕ) → is_ascii_digit b ≡ true → IsInRange 48 57 b
 digit_is b h = (grind arith, grind arith)

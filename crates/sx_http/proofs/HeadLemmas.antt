@@ -15,7 +15,7 @@ use Rattle.httparse.specs.declared.spans.HeaderSpan.{HeaderSpan}
 use Rattle.httparse.specs.declared.spans.RequestSpans.{RequestSpans}
 use Rattle.sx_http.specs.declared.heads.Header.{Header}
 use Rattle.sx_http.specs.declared.heads.Head.{Head}
-use Rattle.sx_http.specs.Limits.{head_limit, header_limit}
+use Rattle.sx_http.specs.declared.limits.TheConstants.{HEAD_LIMIT, HEADER_LIMIT}
 use Rattle.sx_http.specs.Heads.{lower, header_of, head_of, header_at, IsHead, HeadFor, BeginsHead}
 
 -- both crates' tokens are the same
@@ -82,10 +82,10 @@ is_text false bytes e h = cc
 pub head_fits : (bytes : List ℕ) (tree : RequestHead) (rest : List ℕ) → ReadsRequest bytes tree rest → length bytes ≡ length (print_request tree) + length rest
 head_fits bytes tree rest reads = ap length reads.1 ∙ length-append (print_request tree) rest
 
-is_one : (bytes : List ℕ) (size : ℕ) (head : Head) → length bytes ≤ head_limit → BeginsHead bytes size head → nat_eq size (length bytes) && nat_le (length head.headers) header_limit ≡ true → IsHead bytes head
+is_one : (bytes : List ℕ) (size : ℕ) (head : Head) → length bytes ≤ HEAD_LIMIT → BeginsHead bytes size head → nat_eq size (length bytes) && nat_le (length head.headers) HEADER_LIMIT ≡ true → IsHead bytes head
 is_one bytes size head short begins test =
     let all : size ≡ length bytes = grind (arith, nat_tests) in
-    let few : length head.headers ≤ header_limit = grind (arith, nat_tests) in
+    let few : length head.headers ≤ HEADER_LIMIT = grind (arith, nat_tests) in
     let count : length head.headers ≡ length begins.tree.fields = ap (λ (h : Head). length h.headers) begins.is ∙ length-map begins.tree.fields header_of in
     record {
       tree = begins.tree;
@@ -95,7 +95,7 @@ is_one bytes size head short begins test =
       is = begins.is;
     }
 
-is_none : (bytes : List ℕ) (size : ℕ) (head other : Head) → BeginsHead bytes size head → nat_eq size (length bytes) && nat_le (length head.headers) header_limit ≡ false → ¬ (IsHead bytes other)
+is_none : (bytes : List ℕ) (size : ℕ) (head other : Head) → BeginsHead bytes size head → nat_eq size (length bytes) && nat_le (length head.headers) HEADER_LIMIT ≡ false → ¬ (IsHead bytes other)
 is_none bytes size head other begins test is =
     let same = request_unique bytes begins.tree is.tree (drop size bytes) [] begins.reads is.reads in
     let whole = head_fits bytes is.tree [] is.reads in
@@ -106,9 +106,9 @@ is_none bytes size head other begins test is =
     grind (arith, nat_tests)
 
 -- the head that was parsed, where it is all of the bytes and within its limits
-pub head_for : (bytes : List ℕ) (head : Head) (size : ℕ) (r : Option Head) → length bytes ≤ head_limit → BeginsHead bytes size head → r ≡ (if nat_eq size (length bytes) && nat_le (length head.headers) header_limit then Some head else None) → HeadFor bytes r
+pub head_for : (bytes : List ℕ) (head : Head) (size : ℕ) (r : Option Head) → length bytes ≤ HEAD_LIMIT → BeginsHead bytes size head → r ≡ (if nat_eq size (length bytes) && nat_le (length head.headers) HEADER_LIMIT then Some head else None) → HeadFor bytes r
 head_for bytes head size r short begins e =
-    let test : Bool = nat_eq size (length bytes) && nat_le (length head.headers) header_limit in
+    let test : Bool = nat_eq size (length bytes) && nat_le (length head.headers) HEADER_LIMIT in
     subst (HeadFor bytes) (sym e)
     (elim test as (λ b. test ≡ b → HeadFor bytes (if b then Some head else None)) [
       | true ↦ λ h. is_one bytes size head short begins h

@@ -4,7 +4,7 @@ use Rattle.std.specs.List.{flat_map}
 use Rattle.std.proofs.lemmas.List.{drop_all}
 use Rattle.sx_base.proofs.Printing.{flat_map_rest}
 use Rattle.sx_http.specs.declared.heads.Header.{Header}
-use Rattle.sx_http.specs.HeadText.{line_end, header_line, headers_text}
+use Rattle.sx_http.specs.Print.{line_end, header_line, headers_text}
 
 -- the first of the lines that are left
 pub headers_rest : (hs : List Header) (i : ℕ) (h : Header) → i < length hs → h ≡ get_or hs i h → headers_text (drop i hs) ≡ header_line h ++ headers_text (drop (i + 1) hs)

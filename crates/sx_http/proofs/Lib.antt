@@ -1,7 +1,12 @@
 pub mod Answering
+pub mod Bodies
+pub mod BodyReads
 pub mod Determined
 pub mod Digits
+pub mod Exclusion
 pub mod HeadLemmas
 pub mod HeadTexts
+pub mod LineEnds
 pub mod Reasons
 pub mod RoomLemmas
+pub mod Windows

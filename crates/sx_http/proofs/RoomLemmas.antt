@@ -24,7 +24,7 @@ fields_three (f ∷ fs) ok =
     let rest = fields_three fs (λ k d lt. ok (suc k) d (suc-le-suc lt)) in
     omega (arith, whole, first, rest)
 
-head_three : (h : RequestHead) → All IsField h.fields → 3 * length h.fields + 1 ≤ length (print_request h)
+pub head_three : (h : RequestHead) → All IsField h.fields → 3 * length h.fields + 1 ≤ length (print_request h)
 unfolding print_request
 head_three h ok =
     let fields = fields_three h.fields ok in

@@ -1,54 +1,77 @@
--- What one read did, and what stands between the answers of a reader.
-use Rattle.std.specs.Prelude.{ℕ, ◌+◌, ◌-◌, ◌<◌, ◌≤◌, ◌≡◌, ◌++◌, true, List, length, take}
+-- What stands between the answers of a reader: one read, the reads until a line ends, and those of a body.
+use Rattle.std.specs.Prelude.{ℕ, ◌+◌, ◌-◌, ◌<◌, ◌≤◌, ◌≡◌, ◌==◌, ◌++◌, Bool, true, false, List, length, take, drop}
+use Rattle.std.specs.List.{list_any}
 use Rattle.std.specs.declared.option.Option.{Option}
 use Rattle.std.specs.Io.KnownBytes.{Keeps, Consumes, IsAtEnd}
 use Rattle.httparse.specs.Grammar.{RequestHead, print_request, ReadsRequest}
 use Rattle.sx_base.specs.Causes.{Rose}
-use Rattle.sx_http.specs.Limits.{head_limit}
+use Rattle.sx_http.specs.declared.limits.TheConstants.{HEAD_LIMIT}
 use Rattle.sx_http.specs.Heads.{head_of}
-use Rattle.sx_http.specs.Framings.{framing_of}
+use Rattle.sx_http.specs.Framing.{framing_of}
 use Rattle.sx_http.specs.Readers.{Requests}
-use Rattle.sx_http.specs.RequestStream.{stream, Because, Gives}
+use Rattle.sx_http.specs.RequestStream.{stream, Because, Counts}
 use Rattle.sx_http.specs.declared.framing.Framing.TheVariants.{Body}
-use Rattle.sx_http.specs.declared.filling.Filled.{Filled}
-use Rattle.sx_http.specs.declared.filling.Filled.TheVariants.{More, End as Ended, ReadFault as Failed, NoMemory as Starved}
+use Rattle.sx_base.specs.declared.buffer.Refill.{Refill}
+use Rattle.sx_base.specs.declared.buffer.Refill.TheVariants as refill
+use Rattle.sx_http.specs.declared.body.Stop.{Stop}
+use Rattle.sx_http.specs.declared.body.Stop.TheVariants as stop
+use Rattle.sx_http.specs.declared.body.Taken.{Taken}
 use Rattle.sx_http.specs.declared.next.Next.{Next}
-use Rattle.sx_http.specs.declared.next.Next.TheVariants.{Whole, Cut, Spent}
+use Rattle.sx_http.specs.declared.next.Next.TheVariants.{Cut, Spent, ReadFault}
 use Rattle.sx_http.specs.declared.judging.WholeHead.{WholeHead}
 
--- one read, by the bytes that are kept for the reader
-abbrev pub Reading : Filled → List ℕ → List ℕ → ℕ → Option (List ℕ) → Option (List ℕ) → ℕ → ℕ → Type 0
-Reading More old new most left left' before now = (bytes : List ℕ) × (new ≡ old ++ bytes) × (0 < length bytes) × (length bytes ≤ most) × Consumes left left' bytes
-Reading Ended old new most left left' before now = (new ≡ old) × Keeps left left' × IsAtEnd left'
-Reading Failed old new most left left' before now = (new ≡ old) × Keeps left left' × Rose before now
-Reading Starved old new most left left' before now = (new ≡ old) × Keeps left left'
-
--- nothing was given: the stream is as it was, and nothing is told otherwise
+-- nothing was given: the stream is as it was, and nothing is told otherwise but what is held
 pub record Stays (old new : Requests) (left left' : Option (List ℕ)) : Type 0 where
   pub bytes : Keeps (stream old left) (stream new left')
-  pub rest : new ≡ record { held = new.held; given = old.given; taken = old.taken; budget = old.budget; ended = old.ended }
+  pub rest : new ≡ record {
+    held = new.held;
+    given = old.given;
+    taken = old.taken;
+    budget = old.budget;
+    ended = old.ended;
+  }
 
--- more is held behind what was held
-pub record Grows (old new : Requests) : Type 0 where
-  pub front : take (length old.held) new.held ≡ old.held
-  pub longer : length old.held < length new.held
+-- these bytes stand behind what was held
+abbrev pub HoldsMore : Requests → Requests → List ℕ → Type 0
+HoldsMore old new bytes = new.held ≡ old.held ++ bytes
 
--- what one read did, by the reader
-abbrev pub Filling : Filled → Requests → Requests → Option (List ℕ) → Option (List ℕ) → ℕ → ℕ → Type 0
-Filling More old new left left' before now = Stays old new left left' × Grows old new
-Filling Ended old new left left' before now = Stays old new left left' × IsAtEnd left' × (new ≡ old)
-Filling Failed old new left left' before now = Stays old new left left' × Rose before now × (new ≡ old)
-Filling Starved old new left left' before now = Stays old new left left'
+-- the byte is a line feed
+abbrev pub is_line_feed : ℕ → Bool
+is_line_feed b = b == 10
+
+-- one read of a reader
+abbrev pub Fills : Refill → Requests → Requests → Option (List ℕ) → Option (List ℕ) → ℕ → ℕ → Type 0
+Fills refill.More old new left left' before now = Stays old new left left'
+    × ((bytes : List ℕ) × HoldsMore old new bytes × (0 < length bytes)) × (now ≡ before)
+Fills refill.End old new left left' before now = Stays old new left left' × IsAtEnd left' × (new ≡ old) × (now ≡ before)
+Fills refill.ReadFault old new left left' before now = Stays old new left left' × (new ≡ old) × Rose before now
+Fills refill.NoMemory old new left left' before now = Stays old new left left' × (new ≡ old) × (now ≡ before)
+
+-- no line feed came
+abbrev pub StaysInLine : Requests → Requests → Type 0
+StaysInLine old new = (bytes : List ℕ) × HoldsMore old new bytes × (list_any is_line_feed bytes ≡ false)
+
+-- the reads until a line feed has come, or as many bytes as a head or the budget may have
+abbrev pub Awaits : Refill → Requests → Requests → Option (List ℕ) → Option (List ℕ) → ℕ → ℕ → Type 0
+Awaits refill.More old new left left' before now = Stays old new left left' × (length old.held < length new.held)
+    × (now ≡ before)
+Awaits refill.End old new left left' before now = Stays old new left left' × (length old.held ≤ length new.held)
+    × IsAtEnd left' × (now ≡ before)
+Awaits refill.ReadFault old new left left' before now = Stays old new left left' × StaysInLine old new × Rose before now
+Awaits refill.NoMemory old new left left' before now = Stays old new left left' × (now ≡ before)
+
+-- the answer of a reader whose source has or hasn't ended: it can be told with nothing more read
+abbrev pub Settles : Next → Bool → Requests → Type 0
+Settles next ended reader =
+    ((left : Option (List ℕ)) → (ended ≡ true → IsAtEnd left)
+    → Because next reader.given (reader.budget - reader.given) reader.held (stream reader left))
+    × ((count : ℕ) → Counts next count count)
 
 -- no request was given, for that reason
 pub record Stops (next : Next) (old new : Requests) (left left' : Option (List ℕ)) (before now : ℕ) : Type 0 where
   pub stays : Stays old new left left'
-  pub because : Because next old.given (old.budget - old.given) new.held (stream old left) before now
-
--- the answer of a reader before it ends: a request, or a reason
-abbrev pub Finds : Next → Requests → Requests → Option (List ℕ) → Option (List ℕ) → ℕ → ℕ → Type 0
-Finds (Whole request) old new left left' before now = Gives request old new left left'
-Finds next old new left left' before now = Stops next old new left left' before now
+  pub because : Because next old.given (old.budget - old.given) new.held (stream old left)
+  pub count : Counts next before now
 
 -- the bytes begin with a whole head that was judged: of so many bytes, and with a body of so many behind it
 pub record HoldsHead (bytes : List ℕ) (found : WholeHead) : Type 0 where
@@ -56,13 +79,52 @@ pub record HoldsHead (bytes : List ℕ) (found : WholeHead) : Type 0 where
   pub rest : List ℕ
   pub reads : ReadsRequest bytes tree rest
   pub long : found.size ≡ length (print_request tree)
-  pub short : found.size ≤ head_limit
+  pub short : found.size ≤ HEAD_LIMIT
   pub is : found.head ≡ head_of tree
   pub framed : framing_of found.head ≡ Body found.body
 
--- the reader after an answer: after each but a request it has ended
-abbrev pub finished : Next → Requests → Requests
-finished (Whole request) reader = reader
-finished (Cut left) reader = record { held = reader.held; given = reader.given; taken = reader.given + length reader.held; budget = reader.budget; ended = true }
-finished Spent reader = record { held = reader.held; given = reader.given; taken = reader.budget; budget = reader.budget; ended = true }
-finished next reader = record { held = reader.held; given = reader.given; taken = reader.given; budget = reader.budget; ended = true }
+-- how the reads of a body ended: it is full, the source is at its end, or a read failed
+abbrev pub StopsFor : Stop → ℕ → ℕ → Option (List ℕ) → ℕ → ℕ → Type 0
+StopsFor stop.Full count size left' before now = (count ≡ size) × (now ≡ before)
+StopsFor stop.End count size left' before now = (count < size) × IsAtEnd left' × (now ≡ before)
+StopsFor stop.ReadFault count size left' before now = (count < size) × Rose before now
+
+-- a slice whose first bytes were there was filled further from the source
+pub record FillsBehind (taken : Taken) (from : ℕ) (old new : List ℕ) (left left' : Option (List ℕ))
+    (before now : ℕ) : Type 0 where
+  pub front : take from new ≡ take from old
+  pub bytes : Consumes left left' (drop from (take taken.count new))
+  pub more : from ≤ taken.count
+  pub fits : taken.count ≤ length new
+  pub size : length new ≡ length old
+  pub cause : StopsFor taken.stop taken.count (length new) left' before now
+
+-- the answer where a body isn't whole, by why no more of it was read
+abbrev pub body_stop : Stop → ℕ → Next
+body_stop stop.Full left = Spent
+body_stop stop.End left = Cut left
+body_stop stop.ReadFault left = ReadFault
+
+-- the reader after an answer that gives no request: it has ended
+abbrev pub finished_reader : Next → Requests → Requests
+finished_reader (Cut left) reader = record {
+  held = reader.held;
+  given = reader.given;
+  taken = reader.given + length reader.held;
+  budget = reader.budget;
+  ended = true;
+}
+finished_reader Spent reader = record {
+  held = reader.held;
+  given = reader.given;
+  taken = reader.budget;
+  budget = reader.budget;
+  ended = true;
+}
+finished_reader next reader = record {
+  held = reader.held;
+  given = reader.given;
+  taken = reader.given;
+  budget = reader.budget;
+  ended = true;
+}

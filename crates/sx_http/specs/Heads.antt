@@ -1,10 +1,11 @@
 -- The heads of requests, by the grammar of RFC 9112, sections 2 to 5, as the crate httparse accepts it.
 use Rattle.std.specs.Prelude.{ℕ, ◌≡◌, ◌≤◌, ◌==◌, List, [], map, length, take, drop, Option, Some, None}
 use Rattle.std.specs.Char.{to_ascii_lowercase}
-use Rattle.httparse.specs.Grammar.{Field, field_value, RequestHead, print_request, ReadsRequest, HasNoRequest, NeverHasRequest, MayBecomeRequest}
+use Rattle.httparse.specs.Grammar.{Field, field_value, RequestHead, print_request, ReadsRequest, HasNoRequest}
+use Rattle.httparse.specs.Grammar.{NeverHasRequest, MayBecomeRequest}
 use Rattle.httparse.specs.Spans.{span_bytes}
 use Rattle.httparse.specs.declared.spans.HeaderSpan.{HeaderSpan}
-use Rattle.sx_http.specs.Limits.{head_limit, header_limit}
+use Rattle.sx_http.specs.declared.limits.TheConstants.{HEAD_LIMIT, HEADER_LIMIT}
 use Rattle.sx_http.specs.declared.heads.Header.{Header}
 use Rattle.sx_http.specs.declared.heads.Head.{Head}
 use Rattle.sx_http.specs.declared.parse.Parsed.{Parsed}
@@ -20,14 +21,19 @@ header_of f = record { name = lower f.name; value = field_value f }
 
 -- the head that a head's text writes
 abbrev pub head_of : RequestHead → Head
-head_of tree = record { method = tree.method; target = tree.target; v11 = tree.minor == 1; headers = map header_of tree.fields }
+head_of tree = record {
+  method = tree.method;
+  target = tree.target;
+  v11 = tree.minor == 1;
+  headers = map header_of tree.fields;
+}
 
 -- the bytes are that head, within its limits
 pub record IsHead (bytes : List ℕ) (head : Head) : Type 0 where
   pub tree : RequestHead
   pub reads : ReadsRequest bytes tree []
-  pub short : length bytes ≤ head_limit
-  pub few : length tree.fields ≤ header_limit
+  pub short : length bytes ≤ HEAD_LIMIT
+  pub few : length tree.fields ≤ HEADER_LIMIT
   pub is : head ≡ head_of tree
 
 -- the head that the bytes are, where they are one
@@ -43,8 +49,8 @@ pub record BeginsHead (bytes : List ℕ) (size : ℕ) (head : Head) : Type 0 whe
   pub is : head ≡ head_of tree
 
 -- the bytes among which a head has to be whole
-abbrev pub window : List ℕ → List ℕ
-window bytes = take head_limit bytes
+abbrev pub head_window : List ℕ → List ℕ
+head_window bytes = take HEAD_LIMIT bytes
 
 -- no head stands at the front, and one may yet come; where the bytes end in a target, whether it is UTF-8 is left open
 abbrev pub MayHaveHead : List ℕ → Type 0

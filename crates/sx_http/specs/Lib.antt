@@ -1,8 +1,10 @@
-pub mod Limits
+pub mod Lookup
 pub mod Heads
-pub mod HeadText
-pub mod Framings
+pub mod Print
+pub mod Framing
+pub mod Facts
 pub mod Readers
 pub mod RequestStream
+pub mod Laws
 pub mod Filling
-pub mod Refusals
+pub mod Judging

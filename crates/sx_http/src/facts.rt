@@ -1,9 +1,10 @@
-ghost use Rattle.std.specs.Prelude.{◌≡◌, codes};
-ghost use Rattle.std.specs.List.{find, count_by};
-ghost use Rattle.std.specs.Option.{option_map};
-ghost use Rattle.sx_http.specs.Framings.{is_named, known_version, version_of, facts_of, no_facts};
+//! What the answer to a refused request needs to know of its head.
+
+ghost use Rattle.std.specs.Prelude.{◌≡◌};
+ghost use Rattle.sx_http.specs.Facts.{known_version, version_of, facts_of, no_facts};
 
 use crate::heads::{Head, Header};
+use crate::lookup::{count_named, first_named};
 
 /// A version of the service, as `x-ms-version` names it.
 #[derive(Clone, Copy, Debug, PartialEq, Eq)]
@@ -21,20 +22,6 @@ pub struct HeadFacts {
     pub head_only: bool,
     /// The version that a whole head asks for, where it has `x-ms-version` once and names a known one.
     pub version: Option<Version>,
-}
-
-/// Whether a header has this name, which is in lower case.
-pub(crate) fn is_named(header: &Header, name: &[u8]) -> bool
-    ensures { result ≡ is_named name.now header.now }
-{
-    header.name.bytes() == name
-}
-
-/// The first header of a name.
-pub(crate) fn first_named<'a>(headers: &'a [Header], name: &[u8]) -> Option<&'a Header>
-    ensures { option_map (λ h. h.now) result ≡ find (is_named name.now) headers.now }
-{
-    headers.iter().find(|h| is_named(h, name))
 }
 
 /// What is told of a whole head.
@@ -67,12 +54,6 @@ fn version_of(headers: &[Header]) -> Option<Version>
         None => None,
         Some(header) => known_version(header.value.as_slice()),
     }
-}
-
-fn count_named(headers: &[Header], name: &[u8]) -> usize
-    ensures { result ≡ count_by (is_named name.now) headers.now }
-{
-    headers.iter().filter(|h| is_named(h, name)).count()
 }
 
 fn known_version(value: &[u8]) -> Option<Version>

@@ -1,20 +1,18 @@
+//! The body that follows a head, and the refusals of a whole head (RFC 9112, section 6).
+
 ghost use Rattle.std.specs.Prelude.{◌≡◌, true};
-ghost use Rattle.std.specs.List.{list_all, list_any};
+ghost use Rattle.std.specs.List.{list_all};
 ghost use Rattle.std.specs.Char.{is_ascii_digit};
-ghost use Rattle.sx_http.specs.Framings.{is_named, number_of, writes, may_state, agreed, length_stated, lacks_length, sized, framing_of};
+ghost use Rattle.sx_http.specs.Framing.{number_of, writes, may_state, agreed_length, length_stated, lacks_length};
+ghost use Rattle.sx_http.specs.Framing.{framing_by_length, framing_of};
 
-use crate::facts::{first_named, is_named};
 use crate::heads::{Head, Header};
-
-/// The most headers of a head (this profile's rule).
-pub const HEADER_LIMIT: usize = 100;
-
-/// The most bytes of a body (this profile's rule).
-pub const BODY_LIMIT: u64 = 4_194_304;
+use crate::limits::{BODY_LIMIT, HEADER_LIMIT};
+use crate::lookup::{first_named, has_header, is_named};
 
 /// What all Content-Length headers together state.
 #[derive(Clone, Copy, Debug, PartialEq, Eq)]
-pub enum Stated {
+pub enum StatedLength {
     /// There is none.
     Nothing,
     /// Each writes this number in decimal digits.
@@ -49,30 +47,24 @@ pub(crate) fn framing_of(head: &Head) -> Framing
     if lacks_length(head) {
         return Framing::NoLength;
     }
-    sized(length_stated(headers))
+    framing_by_length(length_stated(headers))
 }
 
 fn lacks_length(head: &Head) -> bool
     ensures { result ≡ lacks_length head.now }
 {
     let headers = head.headers.as_slice();
-    has_named(headers, b"transfer-encoding")
-        || (head.method.as_str() == "PUT" && !has_named(headers, b"content-length"))
+    has_header(headers, b"transfer-encoding")
+        || (head.method.as_str() == "PUT" && !has_header(headers, b"content-length"))
 }
 
-fn has_named(headers: &[Header], name: &[u8]) -> bool
-    ensures { result ≡ list_any (is_named name.now) headers.now }
-{
-    headers.iter().any(|h| is_named(h, name))
-}
-
-fn sized(stated: Stated) -> Framing
-    ensures { result ≡ sized stated }
+fn framing_by_length(stated: StatedLength) -> Framing
+    ensures { result ≡ framing_by_length stated }
 {
     match stated {
-        Stated::Nothing => Framing::Body(0),
-        Stated::Unclear => Framing::BadLength,
-        Stated::Bytes(length) => {
+        StatedLength::Nothing => Framing::Body(0),
+        StatedLength::Unclear => Framing::BadLength,
+        StatedLength::Bytes(length) => {
             if BODY_LIMIT < length {
                 Framing::LongBody(length)
             } else {
@@ -82,25 +74,25 @@ fn sized(stated: Stated) -> Framing
     }
 }
 
-fn length_stated(headers: &[Header]) -> Stated
+fn length_stated(headers: &[Header]) -> StatedLength
     ensures { result ≡ length_stated headers.now }
 {
     match first_named(headers, b"content-length") {
-        None => Stated::Nothing,
-        Some(header) => agreed(number_of(header.value.as_slice()), headers),
+        None => StatedLength::Nothing,
+        Some(header) => agreed_length(number_of(header.value.as_slice()), headers),
     }
 }
 
-fn agreed(number: Option<u64>, headers: &[Header]) -> Stated
-    ensures { result ≡ agreed number headers.now }
+fn agreed_length(number: Option<u64>, headers: &[Header]) -> StatedLength
+    ensures { result ≡ agreed_length number headers.now }
 {
     match number {
-        None => Stated::Unclear,
+        None => StatedLength::Unclear,
         Some(number) => {
             if all_may_state(number, headers) {
-                Stated::Bytes(number)
+                StatedLength::Bytes(number)
             } else {
-                Stated::Unclear
+                StatedLength::Unclear
             }
         }
     }

@@ -1,3 +1,5 @@
+//! What a reader of requests answers.
+
 use crate::facts::HeadFacts;
 use crate::heads::Request;
 
@@ -37,7 +39,8 @@ pub enum Next {
         at: u64,
         facts: HeadFacts,
     },
-    /// A limit is passed: by the head (`n` is 65,536), by the number `n` of headers, or by the stated length `n` of the body.
+    /// A limit is passed: by the head (`n` is 65,536), by the number `n` of headers, or by the stated length `n` of
+    /// the body.
     TooLong {
         at: u64,
         what: Long,

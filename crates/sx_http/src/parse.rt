@@ -1,23 +1,19 @@
-ghost use Rattle.std.specs.Prelude.{◌≡◌, ◌≤◌, ◌&&◌, nat_le, if◌then◌else◌, All, IfOk, OnOk, Some, None, IsUtf8, length, drop, map};
+//! Heads read from bytes.
+
+ghost use Rattle.std.specs.Prelude.{◌≡◌, ◌≤◌, ◌&&◌, nat_le, if◌then◌else◌, All, IfOk, OnOk, Some, None, IsUtf8};
+ghost use Rattle.std.specs.Prelude.{length, drop, map};
 ghost use Rattle.httparse.specs.Grammar.{IsToken, RequestHead};
 ghost use Rattle.httparse.specs.Spans.{span_bytes, IsHeaderWithin, IsRequestAt, IsRequestOf, IsRequestWithin};
-ghost use Rattle.sx_http.specs.Limits.{head_limit, header_limit, slot_count};
-ghost use Rattle.sx_http.specs.Heads.{lower, head_of, header_at, window, HeadFor, IsParsed};
+ghost use Rattle.sx_http.specs.Heads.{lower, head_of, header_at, head_window, HeadFor, IsParsed};
 
-use crate::framing::HEADER_LIMIT;
 use crate::heads::{Head, Header};
+use crate::limits::{HEAD_LIMIT, HEADER_LIMIT, SLOT_COUNT};
 use http::Method;
 use httparse::Status;
 use httparse::spans::{EMPTY_HEADER_SPAN, HeaderSpan, RequestSpans, parse_request};
 use std::alloc::Global;
 use sx_base::{Items, NoMemory};
 use sx_names::Text;
-
-/// The most bytes of a head (this profile's rule).
-pub const HEAD_LIMIT: usize = 65_536;
-
-/// Room for more headers than a head within its limit can have: each takes at least 3 bytes.
-const SLOTS: usize = 21_846;
 
 /// What stands at the front of some bytes.
 #[derive(Debug, Drop)]
@@ -31,8 +27,8 @@ pub(crate) enum Parsed {
     NoMemory,
 }
 
-/// The head that the bytes are, of at most 65,536 bytes and 100 headers, with its names in lower case. None comes exactly where
-/// they aren't one.
+/// The head that the bytes are, of at most 65,536 bytes and 100 headers, with its names in lower case. None comes
+/// exactly where they aren't one.
 pub fn read_head(alloc: Global, bytes: &[u8]) -> Result<Option<Head>, NoMemory>
     ensures { IfOk result (HeadFor bytes.now) }
 {
@@ -50,7 +46,7 @@ pub fn read_head(alloc: Global, bytes: &[u8]) -> Result<Option<Head>, NoMemory>
 
 /// The head, where it is all of the bytes and has few enough headers.
 fn within_limits(head: Head, is_all: bool) -> Option<Head>
-    ensures { result ≡ (if is_all && nat_le (length head.headers) header_limit then Some head else None) }
+    ensures { result ≡ (if is_all && nat_le (length head.headers) HEADER_LIMIT then Some head else None) }
 {
     if is_all && head.headers.len() <= HEADER_LIMIT {
         Some(head)
@@ -61,35 +57,28 @@ fn within_limits(head: Head, is_all: bool) -> Option<Head>
 
 /// Empty slots for the headers of a head.
 fn slots(alloc: Global) -> Result<Vec<HeaderSpan>, NoMemory>
-    ensures { IfOk result (λ slots. length slots.items ≡ slot_count) }
+    ensures { IfOk result (λ slots. length slots.items ≡ SLOT_COUNT) }
 {
-    let slots = vec![in alloc; EMPTY_HEADER_SPAN; SLOTS]?;
+    let slots = vec![in alloc; EMPTY_HEADER_SPAN; SLOT_COUNT]?;
     Ok(slots)
 }
 
-/// Parses the head that begins at `start`, for which it looks at 65,536 bytes at most. The slots are made at first use.
-pub(crate) fn parse_front(
-    alloc: Global,
-    buffer: &[u8],
-    start: usize,
-    room: &mut Vec<HeaderSpan>,
-) -> Parsed
-    requires { start ≤ length buffer.now }
-    ensures { IsParsed (window (drop start buffer.now)) result }
+/// Parses the head at the front of the bytes, of which it looks at 65,536 at most. The slots are made at first use.
+pub(crate) fn parse_front(alloc: Global, bytes: &[u8], room: &mut Vec<HeaderSpan>) -> Parsed
+    ensures { IsParsed (head_window bytes.now) result }
 {
     match make_ready(alloc, room) {
         Ok(()) => {}
         Err(_) => return Parsed::NoMemory,
     }
-    let end = start + (buffer.len() - start).min(HEAD_LIMIT);
-    parse_head(alloc, &buffer[start..end], room)
+    parse_head(alloc, &bytes[..bytes.len().min(HEAD_LIMIT)], room)
 }
 
 /// Makes the slots, where they are not there yet.
 fn make_ready(alloc: Global, room: &mut Vec<HeaderSpan>) -> Result<(), NoMemory>
-    ensures { OnOk result (length room.new.items ≡ slot_count) }
+    ensures { OnOk result (length room.new.items ≡ SLOT_COUNT) }
 {
-    if room.len() == SLOTS {
+    if room.len() == SLOT_COUNT {
         return Ok(());
     }
     *room = slots(alloc)?;
@@ -98,8 +87,8 @@ fn make_ready(alloc: Global, room: &mut Vec<HeaderSpan>) -> Result<(), NoMemory>
 
 /// Parses the head at the front of the bytes, over slots that are there for this alone.
 fn parse_head(alloc: Global, bytes: &[u8], slots: &mut [HeaderSpan]) -> Parsed
-    requires short { length bytes.now ≤ head_limit }
-    requires wide { length slots.old ≡ slot_count }
+    requires short { length bytes.now ≤ HEAD_LIMIT }
+    requires wide { length slots.old ≡ SLOT_COUNT }
     ensures { IsParsed bytes.now result }
 {
     match parse_request(bytes, slots) {
@@ -132,7 +121,8 @@ fn head_at(
 ) -> Result<Head, NoMemory>
     requires within { IsRequestWithin bytes.now slots.now spans.now }
     requires is { IsRequestOf bytes.now slots.now spans.now }
-    ensures { IfOk result (λ head. (tree : RequestHead) → IsRequestAt bytes.now slots.now spans.now tree → head ≡ head_of tree) }
+    ensures { IfOk result (λ head. (tree : RequestHead) → IsRequestAt bytes.now slots.now spans.now tree → head
+        ≡ head_of tree) }
 {
     let method = method_of(alloc, spans.method.of(bytes))?;
     let target = text_of(Items::copy_of(alloc, spans.path.of(bytes))?);

@@ -13,7 +13,7 @@ use Rattle.base64.specs.Engines.{standard}
 use Rattle.base64.proofs.EngineFacts.{IsAscii-encode_of}
 use Rattle.sx_http.specs.declared.heads.Head.{Head}
 use Rattle.sx_key.specs.declared.account.Account.{Account}
-use Rattle.sx_key.specs.Accounts.{is_account_name}
+use Rattle.sx_key.specs.Account.{is_account_name}
 use Rattle.sx_key.specs.Signature.{signature, authorization}
 
 small : (b : ℕ) → is_lower_or_digit b ≡ true → b < 128

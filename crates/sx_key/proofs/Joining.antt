@@ -4,7 +4,7 @@ use Rattle.std.proofs.lemmas.List.{take_rest}
 use Rattle.std.specs.List.{flat_map, join_with_byte}
 
 -- the first text, and a byte before each of the others
-joined-cons : (c : ℕ) (t : List ℕ) (ts : List (List ℕ)) → join_with_byte c (t ∷ ts) ≡ t ++ flat_map (λ u. c ∷ u) ts
+pub joined-cons : (c : ℕ) (t : List ℕ) (ts : List (List ℕ)) → join_with_byte c (t ∷ ts) ≡ t ++ flat_map (λ u. c ∷ u) ts
 joined-cons c t [] = sym (append-nil t)
 joined-cons c t (u ∷ us) = ap (λ x. t ++ (c ∷ x)) (joined-cons c u us)
 

@@ -1,6 +1,8 @@
 pub mod Ascii
+pub mod Grouping
 pub mod Joining
 pub mod Lists
+pub mod Ordering
 pub mod Passing
 pub mod Same
 pub mod Sorting

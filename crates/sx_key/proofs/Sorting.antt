@@ -1,4 +1,4 @@
--- A list of texts in order whose sums are another's is that one sorted.
+-- A list of texts in order whose sums are another's is that one sorted_texts.
 use Rattle.std.proofs.Common.{◌≡◌, ℕ, suc, ◌+◌, ◌<◌, Bool, true, false, cond, List, [], ◌∷◌, length, map, get_or, subst, if◌then◌else◌, refl, sym, ap, ◌∙◌, arith, suc-le-suc, zero-le}
 use Rattle.std.specs.Prelude.{⊤}
 use Rattle.std.specs.Ordering.{nat_cmp, is_gt, is_lt, ordering_reverse}
@@ -11,24 +11,24 @@ use Rattle.std.proofs.lemmas.Cmp.{upto, tied_itself, nat_list_cmp_total}
 use Rattle.std.proofs.lemmas.List.Sorted.{sum_by-IsPermutation}
 use Rattle.std.proofs.lemmas.List.Sums.{sum_by-cons}
 use Rattle.std.proofs.lemmas.Map.Lookups.{exact_bytes}
-use Rattle.sx_key.specs.Named.{insert_text, sorted}
+use Rattle.sx_key.specs.Texts.{insert_text, sorted_texts}
 
-abbrev order : List ℕ → List ℕ → Ordering
+abbrev pub order : List ℕ → List ℕ → Ordering
 order x y = slice_cmp nat_cmp x y
 
 -- x isn't above y
-abbrev Upto : List ℕ → List ℕ → Type 0
+abbrev pub Upto : List ℕ → List ℕ → Type 0
 Upto x y = is_gt (order x y) ≡ false
 
-abbrev Below : List ℕ → List (List ℕ) → Type 0
+abbrev pub Below : List ℕ → List (List ℕ) → Type 0
 Below t [] = ⊤
 Below t (u ∷ us) = Upto t u × Below t us
 
-abbrev Ascends : List (List ℕ) → Type 0
+abbrev pub Ascends : List (List ℕ) → Type 0
 Ascends [] = ⊤
 Ascends (t ∷ ts) = Below t ts × Ascends ts
 
-abbrev Same : List (List ℕ) → List (List ℕ) → Type 0
+abbrev pub Same : List (List ℕ) → List (List ℕ) → Type 0
 Same xs ys = (f : List ℕ → ℕ) → sum_by f xs ≡ sum_by f ys
 
 differ : true ≡ false → ⊥
@@ -40,7 +40,7 @@ back_upto Equal e = cc
 back_upto Greater e = refl
 
 -- what stands above another has that one up to it
-turned : (t u : List ℕ) → is_gt (order t u) ≡ true → Upto u t
+pub turned : (t u : List ℕ) → is_gt (order t u) ≡ true → Upto u t
 turned t u e = ap is_gt (nat_list_cmp_total.antisymm u t) ∙ back_upto (order t u) e
 
 level : (r : Ordering) → is_gt r ≡ false → is_gt (ordering_reverse r) ≡ false → r ≡ Equal
@@ -48,10 +48,10 @@ level Less e f = cc
 level Equal e f = refl
 level Greater e f = cc
 
-both_upto : (x y : List ℕ) → Upto x y → Upto y x → x ≡ y
+pub both_upto : (x y : List ℕ) → Upto x y → Upto y x → x ≡ y
 both_upto x y h k = exact_bytes x y (level (order x y) h (sym (ap is_gt (nat_list_cmp_total.antisymm y x)) ∙ k))
 
-below_from : (t u : List ℕ) (us : List (List ℕ)) → Upto t u → Below u us → Below t us
+pub below_from : (t u : List ℕ) (us : List (List ℕ)) → Upto t u → Below u us → Below t us
 below_from t u [] h b = tt
 below_from t u (v ∷ us) h b = (upto nat_list_cmp_total t u v h b.0, below_from t u us h b.1)
 
@@ -71,9 +71,9 @@ insert_ascends : (t : List ℕ) (us : List (List ℕ)) → Ascends us → Ascend
 insert_ascends t [] a = (tt, tt)
 insert_ascends t (u ∷ us) a = insert_ascends_by t u us (is_gt (order t u)) refl a (insert_ascends t us a.1)
 
-sorted_ascends : (ts : List (List ℕ)) → Ascends (sorted ts)
+pub sorted_ascends : (ts : List (List ℕ)) → Ascends (sorted_texts ts)
 sorted_ascends [] = tt
-sorted_ascends (t ∷ ts) = insert_ascends t (sorted ts) (sorted_ascends ts)
+sorted_ascends (t ∷ ts) = insert_ascends t (sorted_texts ts) (sorted_ascends ts)
 
 insert_sum_by : (f : List ℕ → ℕ) (t u : List ℕ) (us : List (List ℕ)) (b : Bool) → sum_by f (insert_text t us) ≡ f t + sum_by f us → sum_by f (if b then u ∷ insert_text t us else t ∷ u ∷ us) ≡ f t + sum_by f (u ∷ us)
 insert_sum_by f t u us true rest =
@@ -86,10 +86,10 @@ insert_sum : (f : List ℕ → ℕ) (t : List ℕ) (us : List (List ℕ)) → su
 insert_sum f t [] = sum_by-cons f t []
 insert_sum f t (u ∷ us) = insert_sum_by f t u us (is_gt (order t u)) (insert_sum f t us)
 
-sorted_sum : (f : List ℕ → ℕ) (ts : List (List ℕ)) → sum_by f (sorted ts) ≡ sum_by f ts
+pub sorted_sum : (f : List ℕ → ℕ) (ts : List (List ℕ)) → sum_by f (sorted_texts ts) ≡ sum_by f ts
 sorted_sum f [] = refl
 sorted_sum f (t ∷ ts) =
-    let a = insert_sum f t (sorted ts) in
+    let a = insert_sum f t (sorted_texts ts) in
     let b = sorted_sum f ts in
     let c = sum_by-cons f t ts in
     omega (arith, a, b, c)
@@ -128,7 +128,7 @@ firsts x y xs ys b s = false_by (is_gt (order y x)) (λ g.
     false_by true f = absurd (f refl)
     false_by false f = refl
 
-one_sorted : (xs ys : List (List ℕ)) → Ascends xs → Ascends ys → Same xs ys → xs ≡ ys
+pub one_sorted : (xs ys : List (List ℕ)) → Ascends xs → Ascends ys → Same xs ys → xs ≡ ys
 one_sorted [] [] a b s = refl
 one_sorted [] (y ∷ ys) a b s =
     let same = s (λ _. 1) in
@@ -153,15 +153,15 @@ lt_turned Less = refl
 lt_turned Equal = refl
 lt_turned Greater = refl
 
-abbrev Rises : {X : Type 0} → (X → List ℕ) → List X → Type 0
+abbrev pub Rises : {X : Type 0} → (X → List ℕ) → List X → Type 0
 Rises {X} f xs = (k : ℕ) (d : X) → suc k < length xs → is_lt (order (f (get_or xs (suc k) d)) (f (get_or xs k d))) ≡ false
 
-rises_from : {X : Type 0} (f : X → List ℕ) (xs : List X) → IsSorted (λ x y. order (f x) (f y)) xs → Rises f xs
+pub rises_from : {X : Type 0} (f : X → List ℕ) (xs : List X) → IsSorted (λ x y. order (f x) (f y)) xs → Rises f xs
 rises_from f xs h k d lt =
     let e : k + 1 ≡ suc k = omega arith in
     subst (λ j. is_lt (order (f (get_or xs j d)) (f (get_or xs k d))) ≡ false) e (h k d zero-le (omega (arith, lt)))
 
-ascends_from : {X : Type 0} (f : X → List ℕ) (xs : List X) → Rises f xs → Ascends (map f xs)
+pub ascends_from : {X : Type 0} (f : X → List ℕ) (xs : List X) → Rises f xs → Ascends (map f xs)
 ascends_from f [] h = tt
 ascends_from f (x ∷ []) h = (tt, tt)
 ascends_from f (x ∷ y ∷ ys) h =
@@ -169,7 +169,7 @@ ascends_from f (x ∷ y ∷ ys) h =
     let first : Upto (f x) (f y) = ap is_gt (nat_list_cmp_total.antisymm (f x) (f y)) ∙ lt_turned (order (f y) (f x)) ∙ h 0 x (suc-le-suc (suc-le-suc zero-le)) in
     ((first, below_from (f x) (f y) (map f ys) first rest.0), rest)
 
-sum_of_map : {X : Type 0} (g : List ℕ → ℕ) (f : X → List ℕ) (xs : List X) → sum_by g (map f xs) ≡ sum_by (λ x. g (f x)) xs
+pub sum_of_map : {X : Type 0} (g : List ℕ → ℕ) (f : X → List ℕ) (xs : List X) → sum_by g (map f xs) ≡ sum_by (λ x. g (f x)) xs
 sum_of_map g f [] = refl
 sum_of_map g f (x ∷ xs) =
     let a = sum_by-cons g (f x) (map f xs) in
@@ -178,6 +178,6 @@ sum_of_map g f (x ∷ xs) =
     omega (arith, a, b, rest)
 
 -- what a sort leaves
-pub sorted_is : {X : Type 0} (f : X → List ℕ) (xs ys : List X) → IsPermutation xs ys → IsSorted (λ x y. order (f x) (f y)) ys → map f ys ≡ sorted (map f xs)
-sorted_is f xs ys p h = one_sorted (map f ys) (sorted (map f xs)) (ascends_from f ys (rises_from f ys h)) (sorted_ascends (map f xs))
+pub sorted_is : {X : Type 0} (f : X → List ℕ) (xs ys : List X) → IsPermutation xs ys → IsSorted (λ x y. order (f x) (f y)) ys → map f ys ≡ sorted_texts (map f xs)
+sorted_is f xs ys p h = one_sorted (map f ys) (sorted_texts (map f xs)) (ascends_from f ys (rises_from f ys h)) (sorted_ascends (map f xs))
     (λ g. sum_of_map g f ys ∙ sum_by-IsPermutation (λ x. g (f x)) xs ys p ∙ sym (sum_of_map g f xs) ∙ sym (sorted_sum g (map f xs)))

@@ -12,9 +12,9 @@ use Rattle.base64.specs.Engines.{standard}
 use Rattle.base64.proofs.EngineFacts.{decode_of-encode_of}
 use Rattle.base64.proofs.Streams.{decoded_of-ok}
 use Rattle.sx_names.specs.Names.{is_lower_or_digit}
-use Rattle.sx_key.specs.Accounts.{is_account_name}
-use Rattle.sx_key.specs.Auth.{is_colon, sent_of}
-use Rattle.sx_key.specs.Hmac.{hmac}
+use Rattle.sx_key.specs.Account.{is_account_name}
+use Rattle.sx_key.specs.Checking.{is_colon, signature_of}
+use Rattle.sx_key.specs.Digest.{hmac}
 use Rattle.sx_key.proofs.Lists.{and_parts}
 
 no_colon : (b : ℕ) → is_lower_or_digit b ≡ true → (b == 58) ≡ false
@@ -42,7 +42,7 @@ all_lower : (name : List ℕ) → is_account_name name ≡ true → list_all is_
 all_lower name e = (and_parts (nat_le 3 (length name) && nat_le (length name) 24) (list_all is_lower_or_digit name) e).1
 
 pub spelled_reads : (name signature : List ℕ) → is_account_name name ≡ true → length signature ≡ 32 → IsBytes signature
-    → sent_of (codes "SharedKey " ++ name ++ codes ":" ++ encode_of standard signature) ≡ Some (record { account = name; signature = signature })
+    → signature_of (codes "SharedKey " ++ name ++ codes ":" ++ encode_of standard signature) ≡ Some (record { account = name; signature = signature })
 spelled_reads name signature named long bytes =
     let lower = all_lower name named in
     let before = before_colon name (encode_of standard signature) lower in

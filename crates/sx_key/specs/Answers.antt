@@ -5,20 +5,21 @@ use Rattle.sx_key.specs.declared.account.AccountFault.{AccountFault}
 use Rattle.sx_key.specs.declared.account.AccountFault.TheVariants.{BadName, BadKey, NoMemory as WantsMemory}
 use Rattle.sx_key.specs.declared.fault.AuthFault.{AuthFault}
 use Rattle.sx_key.specs.declared.fault.AuthFault.TheVariants.{NoMemory}
-use Rattle.sx_key.specs.Accounts.{is_account_name, key_of}
+use Rattle.sx_key.specs.Account.{is_account_name, key_of}
 
 -- an account's name and key
 pub record Credentials : Type 0 where
   pub name : List ℕ
   pub key : List ℕ
 
+-- the key of that name, where the text spells one
 abbrev pub with_key : List ℕ → Option (List ℕ) → Result Credentials AccountFault
 with_key name None = Err BadKey
 with_key name (Some key) = Ok (record { name = name; key = key })
 
 -- the account that two words spell, or the first fault
-abbrev pub account_of : List ℕ → List ℕ → Result Credentials AccountFault
-account_of name key = if is_account_name name then with_key name (key_of key) else Err BadName
+abbrev pub credentials_of : List ℕ → List ℕ → Result Credentials AccountFault
+credentials_of name key = if is_account_name name then with_key name (key_of key) else Err BadName
 
 -- the call answers this, or lacked memory
 abbrev pub ReadsAccount : Result Account AccountFault → Result Credentials AccountFault → Type 0

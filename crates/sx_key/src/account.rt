@@ -1,7 +1,7 @@
 //! Accounts: a name, and the key under which its requests are signed.
 
 ghost use Rattle.std.specs.Prelude.{◌≡◌, ◌<◌, true, length};
-ghost use Rattle.sx_key.specs.Accounts.{is_account_name};
+ghost use Rattle.sx_key.specs.Account.{is_account_name};
 
 use sx_base::{Items, NoMemory};
 use sx_names::Text;
@@ -9,7 +9,9 @@ use sx_names::Text;
 /// An account: its name of 3 to 24 lower-case letters and digits, and its key of at least one byte.
 #[derive(Debug, Drop)]
 pub struct Account {
+    /// The name, of 3 to 24 lower-case letters and digits.
     pub name: Text,
+    /// The key, of at least one byte.
     pub key: Items<u8>,
     ghost named: { is_account_name name ≡ true },
     ghost keyed: { 0 < length key },

@@ -2,37 +2,36 @@
 
 ghost use Rattle.std.specs.Prelude.{◌≡◌, map};
 ghost use Rattle.sx_key.specs.Answers.{Answers};
-ghost use Rattle.httpdate.specs.Date.{parse_secs};
-ghost use Rattle.sx_key.specs.Named.{values};
-ghost use Rattle.sx_key.specs.Auth.{auth, dated, only_date, or_bad_date, is_timely, is_of, is_signed};
+ghost use Rattle.sx_http.specs.Lookup.{header_values};
+ghost use Rattle.sx_key.specs.Checking.{auth, request_date, only_date, or_bad_date, date_moment, check_date};
+ghost use Rattle.sx_key.specs.Checking.{check_account, check_signature};
 
 use crate::account::Account;
 use crate::fault::AuthFault;
-use crate::sent::{Sent, read_sent};
+use crate::sent::{SentSignature, read_signature};
 use crate::signing::signature;
-use crate::texts::{has_header, values};
-use httpdate::HttpDate;
 use std::alloc::Global;
-use sx_http::{Head, Header};
+use sx_base::read_date;
+use sx_http::{Head, Header, has_header, header_values};
 
-/// How far a request's date may be from now, in ticks of 100 ns.
-const WINDOW: u64 = 9_000_000_000;
+/// How far a request's date may be from now, in ticks of 100 ns: 15 minutes (this profile's rule for dates ahead, too).
+pub const DATE_WINDOW: u64 = 9_000_000_000;
 
-/// Checks a signed head at a moment, in ticks of 100 ns since 1970-01-01T00:00:00Z: `Ok` where it has no fault, else the first
-/// of the faults in the order of `AuthFault`.
+/// Checks a signed head at a moment, in ticks of 100 ns since 1970-01-01T00:00:00Z: `Ok` where it has no fault, else
+/// the first of the faults in the order of `AuthFault`.
 pub fn check(alloc: Global, head: &Head, account: &Account, now: u64) -> Result<(), AuthFault>
     ensures { Answers result (auth head.now account.now now) }
 {
-    let sent = read_sent(alloc, head.headers.as_slice())?;
-    is_of(account.name.bytes(), &sent)?;
-    let date = dated(alloc, head.headers.as_slice())?;
-    is_timely(date, now)?;
+    let sent = read_signature(alloc, head.headers.as_slice())?;
+    check_account(account.name.bytes(), &sent)?;
+    let date = request_date(alloc, head.headers.as_slice())?;
+    check_date(date, now)?;
     let computed = signature(alloc, head, account)?;
-    is_signed(&computed, &sent)
+    check_signature(&computed, &sent)
 }
 
-fn is_of(name: &[u8], sent: &Sent) -> Result<(), AuthFault>
-    ensures { Answers result (is_of name.now sent.now) }
+fn check_account(name: &[u8], sent: &SentSignature) -> Result<(), AuthFault>
+    ensures { Answers result (check_account name.now sent.now) }
 {
     if sent.account.as_slice() == name {
         Ok(())
@@ -42,8 +41,8 @@ fn is_of(name: &[u8], sent: &Sent) -> Result<(), AuthFault>
 }
 
 /// The moment of `x-ms-date`, else of Date.
-fn dated(alloc: Global, headers: &[Header]) -> Result<u64, AuthFault>
-    ensures { Answers result (dated headers.now) }
+fn request_date(alloc: Global, headers: &[Header]) -> Result<u64, AuthFault>
+    ensures { Answers result (request_date headers.now) }
 {
     if has_header(headers, b"x-ms-date") {
         return named_date(alloc, headers, b"x-ms-date");
@@ -52,9 +51,9 @@ fn dated(alloc: Global, headers: &[Header]) -> Result<u64, AuthFault>
 }
 
 fn named_date(alloc: Global, headers: &[Header], name: &[u8]) -> Result<u64, AuthFault>
-    ensures { Answers result (only_date (values name.now headers.now)) }
+    ensures { Answers result (only_date (header_values name.now headers.now)) }
 {
-    let values = values(alloc, headers, name)?;
+    let values = header_values(alloc, headers, name)?;
     only_date(&values)
 }
 
@@ -69,28 +68,28 @@ fn only_date(values: &[&[u8]]) -> Result<u64, AuthFault>
 }
 
 fn or_bad_date(value: &[u8]) -> Result<u64, AuthFault>
-    ensures { Answers result (or_bad_date (parse_secs value.now)) }
+    ensures { Answers result (or_bad_date (date_moment value.now)) }
 {
-    match HttpDate::parse_ascii(value) {
-        Ok(date) => Ok(date.unix_secs() * 10_000_000),
-        Err(_) => Err(AuthFault::BadDate),
+    match read_date(value) {
+        Some(moment) => Ok(moment),
+        None => Err(AuthFault::BadDate),
     }
 }
 
-fn is_timely(dated: u64, now: u64) -> Result<(), AuthFault>
-    ensures { Answers result (is_timely dated now) }
+fn check_date(date: u64, now: u64) -> Result<(), AuthFault>
+    ensures { Answers result (check_date date now) }
 {
-    if now.saturating_sub(dated) > WINDOW {
-        return Err(AuthFault::TooOld { dated, now });
+    if now.saturating_sub(date) > DATE_WINDOW {
+        return Err(AuthFault::TooOld { dated: date, now });
     }
-    if dated.saturating_sub(now) > WINDOW {
-        return Err(AuthFault::TooNew { dated, now });
+    if date.saturating_sub(now) > DATE_WINDOW {
+        return Err(AuthFault::TooNew { dated: date, now });
     }
     Ok(())
 }
 
-fn is_signed(computed: &[u8], sent: &Sent) -> Result<(), AuthFault>
-    ensures { Answers result (is_signed computed.now sent.now) }
+fn check_signature(computed: &[u8], sent: &SentSignature) -> Result<(), AuthFault>
+    ensures { Answers result (check_signature computed.now sent.now) }
 {
     if sent.signature.as_slice() == computed {
         Ok(())

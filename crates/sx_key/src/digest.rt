@@ -2,12 +2,12 @@
 
 ghost use Rattle.std.specs.Prelude.{◌≡◌, ◌++◌, ◌≤◌, List, ℕ, map, replicate, bit_xor, length};
 ghost use Rattle.sha2.specs.Hashers.{Holds256};
-ghost use Rattle.sx_key.specs.Hmac.{hmac as hmac_of, padded_digest, block_hmac};
+ghost use Rattle.sx_key.specs.Digest.{hmac as hmac_of, padded_digest, block_hmac};
 
 use sha2::{Digest, Sha256};
 
 /// HMAC-SHA256 of a text under a key of any length (RFC 2104). It takes no memory.
-#[tactic(auto, unfolding(crate::specs::Hmac::hmac))]
+#[tactic(auto, unfolding(crate::specs::Digest::hmac))]
 pub fn hmac(key: &[u8], text: &[u8]) -> [u8; 32]
     ensures { result ≡ hmac_of key.now text.now }
 {

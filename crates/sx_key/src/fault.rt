@@ -3,8 +3,8 @@
 use std::alloc::AllocError;
 use sx_base::NoMemory;
 
-/// The first fault of a signed request, in this order ("Authorize with Shared Key" of Azure Storage; that requests dated
-/// ahead are refused too is this project's own).
+/// The first fault of a signed request, in this order ("Authorize with Shared Key" of Azure Storage; that requests
+/// dated ahead are refused too is this project's own).
 #[derive(Clone, Copy, Debug, PartialEq, Eq)]
 pub enum AuthFault {
     /// There is no Authorization header.

@@ -6,6 +6,7 @@ mod canonical;
 mod checking;
 mod digest;
 mod fault;
+mod fields;
 mod laws;
 mod query;
 mod reading;
@@ -14,11 +15,8 @@ mod signing;
 mod texts;
 
 pub use account::{Account, AccountFault};
-pub use checking::check;
+pub use checking::{DATE_WINDOW, check};
 pub use digest::hmac;
 pub use fault::AuthFault;
-pub use laws::signed_heads_pass;
+pub use laws::{signed_heads_pass, texts_are_ordered};
 pub use signing::{sign, string_to_sign};
-
-#[cfg(test)]
-mod tests;

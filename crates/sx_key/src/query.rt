@@ -4,11 +4,11 @@ ghost use Rattle.std.specs.Prelude.{◌≡◌, ◌++◌, ◌==◌, OnOk, IfOk, m
 ghost use Rattle.std.specs.List.{filter, flat_map, slice_split};
 ghost use Rattle.std.specs.Char.{to_ascii_lowercase};
 ghost use Rattle.percent_encoding.specs.Percent.{percent_decode};
-ghost use Rattle.sx_key.specs.Named.{sorted};
-ghost use Rattle.sx_key.specs.Signature.{is_and, is_not_empty, parameter, parameters, parameter_line, parameter_lines, canonical_resource};
+ghost use Rattle.sx_key.specs.Signature.{is_and, is_not_empty, parameter, parameters, parameter_lines};
+ghost use Rattle.sx_key.specs.Signature.{canonical_resource};
 
-use crate::canonical::{Field, field_names, field_values};
-use crate::texts::{after, before, put_joined};
+use crate::fields::{Field, put_lines, sort_by_name, sort_by_value};
+use crate::texts::{after, before};
 use percent_encoding::percent_decode;
 use std::alloc::{AllocError, Global};
 use sx_base::{Items, NoMemory};
@@ -26,60 +26,30 @@ pub(crate) fn put_resource(
     out.push(b'/')?;
     out.extend_from_slice(account)?;
     out.extend_from_slice(before(target, b'?'))?;
-    put_parameters(alloc, out, parameters.as_slice())
+    put_parameters(out, parameters)
 }
 
-fn put_parameters(alloc: Global, out: &mut Vec<u8>, fields: &[Field]) -> Result<(), NoMemory>
-    ensures { OnOk result (out.new.items ≡ out.old.items ++ parameter_lines fields.now) }
+/// Adds a line for each name of the parameters, with its values in order.
+fn put_parameters(out: &mut Vec<u8>, mut parameters: Vec<Field>) -> Result<(), NoMemory>
+    ensures { OnOk result (out.new.items ≡ out.old.items ++ parameter_lines parameters.items) }
 {
-    let names = field_names(alloc, fields)?;
-    put_lines(alloc, out, fields, &names)
-}
-
-fn put_lines(
-    alloc: Global,
-    out: &mut Vec<u8>,
-    fields: &[Field],
-    names: &[Items<u8>],
-) -> Result<(), NoMemory>
-    ensures { OnOk result (out.new.items ≡ out.old.items ++ flat_map (parameter_line fields.now) names.now) }
-{
-    for name in names {
-        put_line(alloc, out, fields, name.as_slice())?;
-    }
-    Ok(())
-}
-
-fn put_line(alloc: Global, out: &mut Vec<u8>, fields: &[Field], name: &[u8]) -> Result<(), NoMemory>
-    ensures { OnOk result (out.new.items ≡ out.old.items ++ parameter_line fields.now name.now) }
-{
-    let mut values = field_values(alloc, fields, name)?;
-    sort(&mut values);
-    out.push(b'\n')?;
-    out.extend_from_slice(name)?;
-    out.push(b':')?;
-    put_joined(out, b',', &values)
-}
-
-/// Puts texts in the order of bytes.
-fn sort(texts: &mut [&[u8]])
-    ensures { map (λ t. t.now) texts.new ≡ sorted (map (λ t. t.now) texts.old) }
-{
-    texts.sort_unstable();
+    sort_by_value(&mut parameters);
+    sort_by_name(&mut parameters)?;
+    put_lines(out, b"\n", &parameters, b"")
 }
 
 /// The parameters of a query.
-fn parameters(alloc: Global, query: &[u8]) -> Result<Items<Field>, NoMemory>
-    ensures { IfOk result (λ ps. ps ≡ parameters query.now) }
+fn parameters(alloc: Global, query: &[u8]) -> Result<Vec<Field>, NoMemory>
+    ensures { IfOk result (λ ps. ps.items ≡ parameters query.now) }
 {
     let pieces = pieces_of(alloc, query)?;
     parameters_in(alloc, &pieces)
 }
 
-fn parameters_in(alloc: Global, pieces: &[&[u8]]) -> Result<Items<Field>, NoMemory>
-    ensures { IfOk result (λ ps. ps ≡ map parameter (map (λ t. t.now) pieces.now)) }
+fn parameters_in(alloc: Global, pieces: &[&[u8]]) -> Result<Vec<Field>, NoMemory>
+    ensures { IfOk result (λ ps. ps.items ≡ map parameter (map (λ t. t.now) pieces.now)) }
 {
-    let mut parameters = Items::new(alloc);
+    let mut parameters = Vec::new(alloc);
     for piece in pieces {
         parameters.push(parameter(alloc, piece)?)?;
     }

@@ -5,8 +5,8 @@ ghost use Rattle.std.specs.List.{list_all};
 ghost use Rattle.base64.specs.GeneralPurpose.{decoded_of};
 ghost use Rattle.base64.specs.Engines.{standard};
 ghost use Rattle.sx_names.specs.Names.{is_lower_or_digit};
-ghost use Rattle.sx_key.specs.Accounts.{is_account_name, key_of};
-ghost use Rattle.sx_key.specs.Answers.{ReadsAccount, account_of};
+ghost use Rattle.sx_key.specs.Account.{is_account_name, key_of};
+ghost use Rattle.sx_key.specs.Answers.{ReadsAccount, credentials_of};
 
 use crate::account::{Account, AccountFault};
 use crate::texts::text_of;
@@ -19,7 +19,7 @@ use sx_names::Text;
 impl Account {
     /// The account of a name and a key, the key in base64, or the first fault of the two.
     pub fn read(alloc: Global, name: &[u8], key: &[u8]) -> Result<Account, AccountFault>
-        ensures { ReadsAccount result (account_of name.now key.now) }
+        ensures { ReadsAccount result (credentials_of name.now key.now) }
     {
         if !is_account_name(name) {
             return Err(AccountFault::BadName);

@@ -2,32 +2,34 @@
 
 ghost use Rattle.std.specs.Prelude.{◌≡◌, IfOk, map};
 ghost use Rattle.sx_key.specs.Answers.{Answers};
-ghost use Rattle.sx_key.specs.Auth.{sent_in, sent_of, sent, only_sent, or_bad_header};
+ghost use Rattle.sx_key.specs.Checking.{signature_in, signature_of, sent_signature, only_signature, or_bad_header};
 
 use crate::fault::AuthFault;
 use crate::reading::{is_account_name, read_base64};
-use crate::texts::{after, before, values};
+use crate::texts::{after, before};
 use std::alloc::Global;
 use sx_base::{Items, NoMemory};
-use sx_http::Header;
+use sx_http::{Header, header_values};
 
 /// The account that a request names, and the 32 bytes of its signature.
 #[derive(Debug, Drop)]
-pub(crate) struct Sent {
+pub(crate) struct SentSignature {
+    /// The name of an account.
     pub account: Items<u8>,
+    /// The signature, of 32 bytes.
     pub signature: Items<u8>,
 }
 
 /// What the one Authorization header says.
-pub(crate) fn read_sent(alloc: Global, headers: &[Header]) -> Result<Sent, AuthFault>
-    ensures { Answers result (sent headers.now) }
+pub(crate) fn read_signature(alloc: Global, headers: &[Header]) -> Result<SentSignature, AuthFault>
+    ensures { Answers result (sent_signature headers.now) }
 {
-    let values = values(alloc, headers, b"authorization")?;
-    only_sent(alloc, &values)
+    let values = header_values(alloc, headers, b"authorization")?;
+    only_signature(alloc, &values)
 }
 
-fn only_sent(alloc: Global, values: &[&[u8]]) -> Result<Sent, AuthFault>
-    ensures { Answers result (only_sent (map (λ t. t.now) values.now)) }
+fn only_signature(alloc: Global, values: &[&[u8]]) -> Result<SentSignature, AuthFault>
+    ensures { Answers result (only_signature (map (λ t. t.now) values.now)) }
 {
     match values {
         [] => Err(AuthFault::NoHeader),
@@ -36,26 +38,26 @@ fn only_sent(alloc: Global, values: &[&[u8]]) -> Result<Sent, AuthFault>
     }
 }
 
-fn or_bad_header(alloc: Global, value: &[u8]) -> Result<Sent, AuthFault>
-    ensures { Answers result (or_bad_header (sent_of value.now)) }
+fn or_bad_header(alloc: Global, value: &[u8]) -> Result<SentSignature, AuthFault>
+    ensures { Answers result (or_bad_header (signature_of value.now)) }
 {
-    match sent_of(alloc, value)? {
+    match signature_of(alloc, value)? {
         None => Err(AuthFault::BadHeader),
         Some(sent) => Ok(sent),
     }
 }
 
-fn sent_of(alloc: Global, value: &[u8]) -> Result<Option<Sent>, NoMemory>
-    ensures { IfOk result (λ s. s ≡ sent_of value.now) }
+fn signature_of(alloc: Global, value: &[u8]) -> Result<Option<SentSignature>, NoMemory>
+    ensures { IfOk result (λ s. s ≡ signature_of value.now) }
 {
     if value.starts_with(b"SharedKey ") {
-        return sent_in(alloc, &value[10..]);
+        return signature_in(alloc, &value[10..]);
     }
     Ok(None)
 }
 
-fn sent_in(alloc: Global, text: &[u8]) -> Result<Option<Sent>, NoMemory>
-    ensures { IfOk result (λ s. s ≡ sent_in text.now) }
+fn signature_in(alloc: Global, text: &[u8]) -> Result<Option<SentSignature>, NoMemory>
+    ensures { IfOk result (λ s. s ≡ signature_in text.now) }
 {
     let account = before(text, b':');
     if !is_account_name(account) {
@@ -68,5 +70,5 @@ fn sent_in(alloc: Global, text: &[u8]) -> Result<Option<Sent>, NoMemory>
         return Ok(None);
     }
     let account = Items::copy_of(alloc, account)?;
-    Ok(Some(Sent { account, signature }))
+    Ok(Some(SentSignature { account, signature }))
 }

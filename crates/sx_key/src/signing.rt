@@ -4,21 +4,25 @@ ghost use Rattle.std.specs.Prelude.{◌≡◌, ◌++◌, ◌∷◌, [], OnOk, If
 ghost use Rattle.std.specs.Str.Lossy.{utf8_lossy};
 ghost use Rattle.base64.specs.GeneralPurpose.{encode_of};
 ghost use Rattle.base64.specs.Engines.{standard};
-ghost use Rattle.sx_key.specs.Signature.{lines_of, length_text, date_text, names_first, names_between, names_last, standard_lines, ended, signed_bytes, string_to_sign, signature, authorization, header_text};
+ghost use Rattle.sx_key.specs.Texts.{text_line};
+ghost use Rattle.sx_key.specs.Signature.{header_lines, signed_length, signed_date, names_first, names_between};
+ghost use Rattle.sx_key.specs.Signature.{names_last, standard_lines, signed_bytes, string_to_sign, signature};
+ghost use Rattle.sx_key.specs.Signature.{authorization, joined_header};
 
 use crate::account::Account;
 use crate::canonical::put_headers;
 use crate::digest::hmac;
 use crate::query::put_resource;
-use crate::texts::{has_header, put_header_text, text_of};
+use crate::texts::{put_joined_header, text_of};
 use base64::engine::general_purpose::STANDARD;
 use std::alloc::Global;
 use sx_base::NoMemory;
-use sx_http::{Head, Header};
+use sx_http::{Head, Header, has_header};
 use sx_names::Text;
 
-/// StringToSign of a request's head under an account's name ("Authorize with Shared Key" of Azure Storage): the verb, eleven
-/// headers, the canonical headers and the canonical resource. Bytes that aren't UTF-8 stand as their lossy text.
+/// StringToSign of a request's head under an account's name ("Authorize with Shared Key" of Azure Storage): the verb,
+/// eleven headers, the canonical headers and the canonical resource. Bytes that aren't UTF-8 stand as their lossy
+/// text.
 pub fn string_to_sign(alloc: Global, head: &Head, account: &Text) -> Result<Text, NoMemory>
     ensures { IfOk result (λ t. t ≡ string_to_sign head.now account.now) }
 {
@@ -26,8 +30,8 @@ pub fn string_to_sign(alloc: Global, head: &Head, account: &Text) -> Result<Text
     lossy(alloc, &bytes)
 }
 
-/// The whole value of the Authorization header: `SharedKey`, a space, the account's name, a colon, and the base64 of the
-/// HMAC-SHA256 of StringToSign under the account's key.
+/// The whole value of the Authorization header: `SharedKey`, a space, the account's name, a colon, and the base64 of
+/// the HMAC-SHA256 of StringToSign under the account's key.
 pub fn sign(alloc: Global, head: &Head, account: &Account) -> Result<Text, NoMemory>
     ensures { IfOk result (λ t. t ≡ authorization head.now account.now) }
 {
@@ -83,7 +87,7 @@ fn put_standard(
 ) -> Result<(), NoMemory>
     ensures { OnOk result (out.new.items ≡ out.old.items ++ standard_lines verb.now headers.now) }
 {
-    put_ended(out, verb)?;
+    put_text_line(out, verb)?;
     put_lines(
         alloc,
         out,
@@ -107,8 +111,8 @@ fn put_standard(
     )
 }
 
-fn put_ended(out: &mut Vec<u8>, text: &[u8]) -> Result<(), NoMemory>
-    ensures { OnOk result (out.new.items ≡ out.old.items ++ ended text.now) }
+fn put_text_line(out: &mut Vec<u8>, text: &[u8]) -> Result<(), NoMemory>
+    ensures { OnOk result (out.new.items ≡ out.old.items ++ text_line text.now) }
 {
     out.extend_from_slice(text)?;
     out.push(b'\n')?;
@@ -122,7 +126,7 @@ fn put_lines(
     headers: &[Header],
     names: &[&[u8]],
 ) -> Result<(), NoMemory>
-    ensures { OnOk result (out.new.items ≡ out.old.items ++ lines_of (map (λ t. t.now) names.now) headers.now) }
+    ensures { OnOk result (out.new.items ≡ out.old.items ++ header_lines (map (λ t. t.now) names.now) headers.now) }
 {
     for name in names {
         put_header_line(alloc, out, headers, name)?;
@@ -136,31 +140,31 @@ fn put_header_line(
     headers: &[Header],
     name: &[u8],
 ) -> Result<(), NoMemory>
-    ensures { OnOk result (out.new.items ≡ out.old.items ++ ended (header_text name.now headers.now)) }
+    ensures { OnOk result (out.new.items ≡ out.old.items ++ text_line (joined_header name.now headers.now)) }
 {
-    put_header_text(alloc, out, headers, name)?;
+    put_joined_header(alloc, out, headers, name)?;
     out.push(b'\n')?;
     Ok(())
 }
 
 /// The line of the length, which is empty for 0.
 fn put_length(alloc: Global, out: &mut Vec<u8>, headers: &[Header]) -> Result<(), NoMemory>
-    ensures { OnOk result (out.new.items ≡ out.old.items ++ ended (length_text headers.now)) }
+    ensures { OnOk result (out.new.items ≡ out.old.items ++ text_line (signed_length headers.now)) }
 {
     let mut length = Vec::new(alloc);
-    put_header_text(alloc, &mut length, headers, b"content-length")?;
+    put_joined_header(alloc, &mut length, headers, b"content-length")?;
     if length.as_slice() == b"0".as_slice() {
-        return put_ended(out, b"");
+        return put_text_line(out, b"");
     }
-    put_ended(out, &length)
+    put_text_line(out, &length)
 }
 
 /// The line of the date, which is empty beside `x-ms-date`.
 fn put_date(alloc: Global, out: &mut Vec<u8>, headers: &[Header]) -> Result<(), NoMemory>
-    ensures { OnOk result (out.new.items ≡ out.old.items ++ ended (date_text headers.now)) }
+    ensures { OnOk result (out.new.items ≡ out.old.items ++ text_line (signed_date headers.now)) }
 {
     if has_header(headers, b"x-ms-date") {
-        return put_ended(out, b"");
+        return put_text_line(out, b"");
     }
     put_header_line(alloc, out, headers, b"date")
 }

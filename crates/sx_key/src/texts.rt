@@ -3,12 +3,11 @@
 ghost use Rattle.std.specs.Prelude.{◌≡◌, ◌≤◌, ◌++◌, ◌∷◌, [], ◌==◌, OnOk, IfOk, map, length, bytes_eq, position, true};
 ghost use Rattle.std.specs.Str.{is_utf8};
 ghost use Rattle.std.specs.List.{flat_map, join_with_byte, before_first, after_first, position_or_len};
-ghost use Rattle.sx_key.specs.Named.{values, joined};
-ghost use Rattle.sx_key.specs.Signature.{has_header, header_text};
+ghost use Rattle.sx_key.specs.Signature.{joined_header};
 
-use std::alloc::{AllocError, Global};
+use std::alloc::Global;
 use sx_base::{Items, NoMemory};
-use sx_http::Header;
+use sx_http::{Header, header_values};
 use sx_names::Text;
 
 /// Adds texts in a row, with a byte between each two.
@@ -42,38 +41,16 @@ fn put_one(out: &mut Vec<u8>, between: u8, text: &[u8]) -> Result<(), NoMemory>
     Ok(())
 }
 
-/// The values of the headers of a name, in the order received.
-pub(crate) fn values<'a>(
-    alloc: Global,
-    headers: &'a [Header],
-    name: &[u8],
-) -> Result<Vec<&'a [u8]>, AllocError>
-    ensures { IfOk result (λ v. map (λ t. t.now) v.items ≡ values name.now headers.now) }
-{
-    headers
-        .iter()
-        .filter(|h| h.name.bytes() == name)
-        .map(|h| h.value.as_slice())
-        .collect(alloc)
-}
-
-/// Whether a header of this name is there.
-pub(crate) fn has_header(headers: &[Header], name: &[u8]) -> bool
-    ensures { result ≡ has_header name.now headers.now }
-{
-    headers.iter().any(|h| h.name.bytes() == name)
-}
-
-/// Adds the values of the headers of a name, joined by commas.
-pub(crate) fn put_header_text(
+/// Adds the values of the headers of a name, joined_text by commas.
+pub(crate) fn put_joined_header(
     alloc: Global,
     out: &mut Vec<u8>,
     headers: &[Header],
     name: &[u8],
 ) -> Result<(), NoMemory>
-    ensures { OnOk result (out.new.items ≡ out.old.items ++ header_text name.now headers.now) }
+    ensures { OnOk result (out.new.items ≡ out.old.items ++ joined_header name.now headers.now) }
 {
-    let values = values(alloc, headers, name)?;
+    let values = header_values(alloc, headers, name)?;
     put_joined(out, b',', &values)
 }
 

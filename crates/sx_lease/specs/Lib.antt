@@ -1,1 +1,1 @@
-pub mod Leases
+pub mod Lease

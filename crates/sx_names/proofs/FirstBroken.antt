@@ -8,7 +8,7 @@ use Rattle.std.proofs.lemmas.Bool.Decides.{nat_tests}
 use Rattle.sx_names.specs.declared.fault.NameRule.TheVariants as rule
 use Rattle.sx_names.specs.declared.fault.NameFault.{NameFault}
 use Rattle.sx_names.specs.Names.{is_part, is_share_name, is_path, is_name_char, is_share_byte, is_dots, has_bad_tail, is_hyphens_at, is_lower_or_digit, path_length}
-use Rattle.sx_names.specs.Rules.{part_fault, share_fault, parts_fault, path_fault, broken_or, at_if, char_place, utf8_front, is_other_char, is_other_byte}
+use Rattle.sx_names.specs.Fault.{part_fault, share_fault, parts_fault, path_fault, whole_fault, broken_or, at_if, char_place, utf8_front, is_other_char, is_other_byte}
 
 module _ {X : Type 0} (p : X → Bool) where
   first_fails : (b : Bool) (n m : ℕ) → is_none (cond (nat_lt (cond (not (not b)) (1 + n) 0) (suc m)) (Some (cond (not (not b)) (1 + n) 0)) None) ≡ (b && is_none (cond (nat_lt n m) (Some n) None))
@@ -127,3 +127,10 @@ unfolding path_fault
 path_law parts =
     rw (parts_law 1 parts, at_most (length parts) 250, at_most (path_length parts) 2048)
     (path_tells (parts_fault 1 parts) (nat_lt 250 (length parts)) (nat_lt 2048 (path_length parts)))
+
+-- parts that are names are a path where they break no rule of a whole path
+pub whole_law : (parts : List (List ℕ)) → list_all is_part parts ≡ true → is_path parts ≡ is_none (whole_fault parts)
+unfolding whole_fault
+whole_law parts named =
+    rw (named, at_most (length parts) 250, at_most (path_length parts) 2048)
+    (path_tells None (nat_lt 250 (length parts)) (nat_lt 2048 (path_length parts)))

@@ -1,12 +1,13 @@
 -- Metadata with one pair more.
-use Rattle.std.proofs.Common.{◌≡◌, ℕ, suc, ◌+◌, ◌-◌, Bool, true, false, ◌&&◌, List, [], ◌∷◌, ◌++◌, length, refl, sym, ap, ◌∙◌, arith, nat_le, ◌≤◌, Option, Some, None}
+use Rattle.std.proofs.Common.{◌≡◌, length-append, suc, ◌+◌, ◌-◌, Bool, true, false, ◌&&◌, List, [], ◌∷◌, ◌++◌, length, refl, sym, ap, ◌∙◌, arith, nat_le, ◌≤◌, Option, Some, None}
 use Rattle.std.specs.Prelude.{slice_get}
 use Rattle.std.specs.List.{list_all}
 use Rattle.std.proofs.lemmas.List.Folds.{list_all-append}
 use Rattle.std.proofs.lemmas.Option.{slice_get-get_or}
 use Rattle.std.proofs.lemmas.Bool.{leb-true}
 use Rattle.sx_names.specs.declared.meta_pair.MetaPair.{MetaPair}
-use Rattle.sx_names.specs.Metadata.{is_meta, is_meta_pair, meta_length, pair_length, follows, in_order}
+use Rattle.sx_names.specs.Meta.{is_meta, is_meta_pair, meta_length, pair_length, follows, in_order, has_room}
+use Rattle.sx_names.specs.declared.meta.TheConstants.{MAX_META_NAMES, MAX_META_BYTES}
 
 -- the last pair, or else the one before all
 abbrev last_or : Option MetaPair → List MetaPair → Option MetaPair
@@ -39,35 +40,44 @@ pub meta_length_more : (ps : List MetaPair) (p : MetaPair) → meta_length (ps +
 meta_length_more [] p = omega arith
 meta_length_more (q ∷ ps) p = omega (arith, meta_length_more ps p)
 
-both : (a b c d e f : Bool) → (a && b && c) ≡ true → d ≡ true → (a && (d && true) && (b && e) && f) ≡ (e && f)
-both true true true true e f h k = refl
-both true true true false e f h k = cc
-both true true false d e f h k = cc
-both true false c d e f h k = cc
-both false b c d e f h k = cc
+length_more : (ps : List MetaPair) (p : MetaPair) → length (ps ++ p ∷ []) ≡ suc (length ps)
+length_more ps p = omega (arith, length-append ps (p ∷ []))
 
--- a pair may follow metadata where its name follows the last and the bytes are few enough
+-- of five facts: where those on what stands hold, and the pair is one, what is left are the facts on the longer list
+both : (all order few short pair follow place room : Bool) → (all && order && few && short) ≡ true → pair ≡ true →
+    (all && (pair && true) && (order && follow) && place && room) ≡ (follow && (place && room))
+both true true few short true true place room h k = refl
+both true true few short true false place room h k = refl
+both true true few short false follow place room h k = cc
+both true false few short pair follow place room h k = cc
+both false order few short pair follow place room h k = cc
+
+-- a pair may follow metadata where its name follows the last, and there is room for it
 pub meta_more : (ps : List MetaPair) (p : MetaPair) → is_meta ps ≡ true → is_meta_pair p ≡ true →
-    is_meta (ps ++ p ∷ []) ≡ (follows (slice_get ps (length ps - 1)) p && nat_le (meta_length ps + pair_length p) 8192)
+    is_meta (ps ++ p ∷ []) ≡ (follows (slice_get ps (length ps - 1)) p && has_room ps p)
 unfolding is_meta
 meta_more ps p meta pair =
-    rw (list_all-append is_meta_pair ps (p ∷ []), in_order_more None ps p, last_of ps, meta_length_more ps p)
-    (both (list_all is_meta_pair ps) (in_order None ps) (nat_le (meta_length ps) 8192) (is_meta_pair p) (follows (slice_get ps (length ps - 1)) p)
-    (nat_le (meta_length ps + pair_length p) 8192) meta pair)
+    rw (list_all-append is_meta_pair ps (p ∷ []), in_order_more None ps p, last_of ps, length_more ps p, meta_length_more ps p)
+    (both (list_all is_meta_pair ps) (in_order None ps) (nat_le (length ps) MAX_META_NAMES)
+    (nat_le (meta_length ps) MAX_META_BYTES) (is_meta_pair p) (follows (slice_get ps (length ps - 1)) p)
+    (nat_le (suc (length ps)) MAX_META_NAMES) (nat_le (meta_length ps + pair_length p) MAX_META_BYTES) meta pair)
 
-last_true : (a b c : Bool) → (a && b && c) ≡ true → c ≡ true
-last_true true true c h = h
-last_true true false c h = cc
-last_true false b c h = cc
+parts_true : (all order few short : Bool) → (all && order && few && short) ≡ true → (few ≡ true) × (short ≡ true)
+parts_true true true true true h = (refl, refl)
+parts_true true true true false h = cc
+parts_true true true false short h = cc
+parts_true true false few short h = cc
+parts_true false order few short h = cc
 
--- metadata has at most 8,192 bytes
-pub meta_short : (ps : List MetaPair) → is_meta ps ≡ true → meta_length ps ≤ 8192
+-- metadata has at most 64 names, and at most 8,192 bytes
+pub meta_limits : (ps : List MetaPair) → is_meta ps ≡ true → (length ps ≤ MAX_META_NAMES) × (meta_length ps ≤ MAX_META_BYTES)
 unfolding is_meta
-meta_short ps meta =
-    leb-true (meta_length ps) 8192 (last_true (list_all is_meta_pair ps) (in_order None ps) (nat_le (meta_length ps) 8192) meta)
+meta_limits ps meta =
+    let parts = parts_true (list_all is_meta_pair ps) (in_order None ps) (nat_le (length ps) MAX_META_NAMES)
+    (nat_le (meta_length ps) MAX_META_BYTES) meta in
+    (leb-true (length ps) MAX_META_NAMES parts.0, leb-true (meta_length ps) MAX_META_BYTES parts.1)
 
 -- the same, from what was computed
-pub takes_by : (ps : List MetaPair) (p : MetaPair) (bytes more : ℕ) (after : Bool) → is_meta ps ≡ true → is_meta_pair p ≡ true →
-    bytes ≡ meta_length ps → more ≡ pair_length p → follows (slice_get ps (length ps - 1)) p ≡ after →
-    (after && nat_le (bytes + more) 8192) ≡ is_meta (ps ++ p ∷ [])
-takes_by ps p bytes more after meta pair e f g = rw (meta_more ps p meta pair, e, f, g) refl
+pub takes_by : (ps : List MetaPair) (p : MetaPair) (room after : Bool) → is_meta ps ≡ true → is_meta_pair p ≡ true →
+    room ≡ has_room ps p → follows (slice_get ps (length ps - 1)) p ≡ after → (after && room) ≡ is_meta (ps ++ p ∷ [])
+takes_by ps p room after meta pair e f = rw (meta_more ps p meta pair, e, f) refl

@@ -1,3 +1,5 @@
+//! The attributes of a file or directory.
+
 /// The attributes of a file or directory ("File system attributes" of Azure Files).
 #[derive(Clone, Copy, Debug, PartialEq, Eq)]
 pub struct Attributes {

@@ -1,3 +1,5 @@
+//! The rules of names, and the first of them that a name breaks.
+
 ghost use Rattle.std.specs.Prelude.{◌≡◌, Some};
 
 use sx_base::NoMemory;
@@ -9,8 +11,8 @@ pub enum NameRule {
     Utf8,
     /// A part is not empty.
     Empty,
-    /// A part has no character below 32, none equal to 127 and none of `"`, `*`, `/`, `:`, `<`, `>`, `?`, `\` and `|`. A share
-    /// name has lower-case letters, digits and hyphens alone.
+    /// A part has no character below 32, none equal to 127 and none of `"`, `*`, `/`, `:`, `<`, `>`, `?`, `\` and
+    /// `|`. A share name has lower-case letters, digits and hyphens alone.
     Char,
     /// A part isn't `.` or `..`.
     Dot,
@@ -35,8 +37,8 @@ pub enum NameRule {
 pub struct NameFault {
     /// The rule.
     pub rule: NameRule,
-    /// The part that breaks it, counted from 1; the count stands still at 4,294,967,295. It is 0 for a share name, and for a
-    /// path as a whole.
+    /// The part that breaks it, counted from 1; the count stands still at 4,294,967,295. It is 0 for a share name,
+    /// and for a path as a whole.
     pub part: u32,
     /// The byte place within the name of the first character that breaks it, and 0 where no byte is to blame.
     pub at: u64,

@@ -1,14 +1,19 @@
-ghost use Rattle.std.specs.Prelude.{◌≡◌, ◌-◌, ◌||◌, true, if◌then◌else◌, IfOk, Some, None, bytes_eq, length, slice_index};
+//! Texts that a header can carry.
+
+ghost use Rattle.std.specs.Prelude.{◌≡◌, ◌-◌, ◌||◌, true, if◌then◌else◌, IfOk, Some, None, bytes_eq, length};
+ghost use Rattle.std.specs.Prelude.{slice_index};
 ghost use Rattle.std.specs.List.{list_all};
-ghost use Rattle.sx_names.specs.Fields.{is_header_text, is_content_text, is_header_byte, is_blank};
+ghost use Rattle.sx_names.specs.Header.{is_header_text, is_content_text, is_header_byte, is_blank};
 
 use crate::part::as_text;
-use std::alloc::Global;
 use std::marker::Model;
 use sx_base::{Items, NoMemory};
 
-/// A text that a header can carry: UTF-8 without a byte below 32 but the tab, without a byte 127, and without a space or tab at
-/// an end. It may be empty.
+/// The most bytes that the value of a content header has.
+pub const MAX_CONTENT_BYTES: usize = 1024;
+
+/// A text that a header can carry: UTF-8 without a byte below 32 but the tab, without a byte 127, and without a space
+/// or tab at an end. It may be empty.
 #[derive(Debug, Drop, PartialEq)]
 pub struct HeaderText {
     bytes: Items<u8>,
@@ -16,7 +21,7 @@ pub struct HeaderText {
 
 impl Model for HeaderText {
     ghost use Rattle.std.specs.Prelude.{◌≡◌, List, ℕ, true};
-    ghost use Rattle.sx_names.specs.Fields.{is_header_text};
+    ghost use Rattle.sx_names.specs.Header.{is_header_text};
 
     ghost Value = { List ℕ };
 
@@ -39,10 +44,10 @@ impl HeaderText {
     }
 
     /// An equal text of its own.
-    pub fn copy(&self, alloc: Global) -> Result<HeaderText, NoMemory>
+    pub fn copy(&self) -> Result<HeaderText, NoMemory>
         ensures { IfOk result (λ t. t ≡ self.now) }
     {
-        let bytes = self.bytes.copy(alloc)?;
+        let bytes = self.bytes.copy()?;
         Ok(HeaderText { bytes })
     }
 
@@ -65,20 +70,20 @@ impl HeaderText {
 /// The value of a content header, as it is kept with a file: a text that a header can carry, of at most 1,024 bytes.
 #[derive(Debug, Drop, PartialEq)]
 pub struct ContentText {
-    bytes: Items<u8>,
+    text: HeaderText,
 }
 
 impl Model for ContentText {
     ghost use Rattle.std.specs.Prelude.{◌≡◌, List, ℕ, true};
-    ghost use Rattle.sx_names.specs.Fields.{is_content_text};
+    ghost use Rattle.sx_names.specs.Header.{is_content_text};
 
     ghost Value = { List ℕ };
 
-    ghost view = { λ t. t.bytes };
+    ghost view = { λ t. t.text };
 
-    ghost invariant = { λ t. is_content_text t.bytes ≡ true };
+    ghost invariant = { λ t. is_content_text t.text ≡ true };
 
-    ghost inverse = { λ bs. record { bytes = bs } };
+    ghost inverse = { λ bs. record { text = bs } };
 }
 
 impl ContentText {
@@ -86,18 +91,21 @@ impl ContentText {
     pub fn of(bytes: Items<u8>) -> Option<ContentText>
         ensures { result ≡ (if is_content_text bytes then Some bytes else None) }
     {
-        if 1024 < bytes.len() || !is_header_text(bytes.as_slice()) {
+        if MAX_CONTENT_BYTES < bytes.len() {
             return None;
         }
-        Some(ContentText { bytes })
+        match HeaderText::of(bytes) {
+            Some(text) => Some(ContentText { text }),
+            None => None,
+        }
     }
 
     /// An equal text of its own.
-    pub fn copy(&self, alloc: Global) -> Result<ContentText, NoMemory>
+    pub fn copy(&self) -> Result<ContentText, NoMemory>
         ensures { IfOk result (λ t. t ≡ self.now) }
     {
-        let bytes = self.bytes.copy(alloc)?;
-        Ok(ContentText { bytes })
+        let text = self.text.copy()?;
+        Ok(ContentText { text })
     }
 
     /// The text's bytes.
@@ -105,18 +113,18 @@ impl ContentText {
         ensures value { result.now ≡ self.now }
         ensures text { is_content_text self.now ≡ true }
     {
-        self.bytes.as_slice()
+        self.text.bytes()
     }
 
     /// Whether both are the same bytes.
     pub fn same(&self, other: &ContentText) -> bool
         ensures { result ≡ bytes_eq self.now other.now }
     {
-        self.bytes.same(&other.bytes)
+        self.text.same(&other.text)
     }
 }
 
-#[tactic(auto, unfolding(crate::specs::Fields::is_header_text))]
+#[tactic(auto, unfolding(crate::specs::Header::is_header_text))]
 fn is_header_text(bytes: &[u8]) -> bool
     ensures { result ≡ is_header_text bytes.now }
 {

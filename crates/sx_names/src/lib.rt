@@ -15,17 +15,14 @@ mod share;
 mod text;
 
 pub use attributes::Attributes;
-pub use content::Content;
+pub use content::{Content, ContentMd5};
 pub use fault::{NameFault, NameRule, Unnamed};
-pub use header::{ContentText, HeaderText};
-pub use meta::Meta;
-pub use meta_pair::{MetaName, MetaPair};
-pub use page::{NameItem, NamesPage, PageSize};
-pub use part::{Folded, Part};
-pub use path::Path;
-pub use quota::Quota;
-pub use share::ShareName;
+pub use header::{ContentText, HeaderText, MAX_CONTENT_BYTES};
+pub use meta::{MAX_META_BYTES, MAX_META_NAMES, Meta};
+pub use meta_pair::{MAX_META_NAME_BYTES, MetaName, MetaPair};
+pub use page::{MAX_RESULTS, NameItem, NamesPage, PageSize};
+pub use part::{Folded, MAX_PART_CHARS, Part};
+pub use path::{MAX_PARTS, MAX_PATH_CHARS, Path};
+pub use quota::{MAX_QUOTA, Quota};
+pub use share::{MAX_SHARE_BYTES, MIN_SHARE_BYTES, ShareName};
 pub use text::Text;
-
-#[cfg(test)]
-mod tests;

@@ -1,5 +1,9 @@
-ghost use Rattle.std.specs.Prelude.{◌≡◌, ◌∷◌, ◌++◌, ◌-◌, ◌+◌, ◌<◌, ◌≤◌, ◌^◌, [], true, IfOk, OnOk, OnErr, length, slice_get};
-ghost use Rattle.sx_names.specs.Metadata.{is_meta, is_meta_pair, meta_length, pair_length, follows};
+//! The metadata of a share, directory or file.
+
+ghost use Rattle.std.specs.Prelude.{◌≡◌, ◌∷◌, ◌++◌, ◌-◌, ◌+◌, ◌<◌, ◌≤◌, ◌^◌, [], true, IfOk, OnOk, OnErr, length};
+ghost use Rattle.std.specs.Prelude.{slice_get};
+ghost use Rattle.sx_names.specs.Meta.{is_meta, is_meta_pair, meta_length, pair_length, follows, has_room};
+ghost use Rattle.sx_names.specs.declared.meta.TheConstants.{MAX_META_NAMES, MAX_META_BYTES};
 
 use crate::meta_pair::MetaPair;
 use std::alloc::Global;
@@ -7,9 +11,15 @@ use std::cmp::Ordering;
 use std::marker::Model;
 use sx_base::{Items, NoMemory};
 
-/// The metadata of a share, directory or file: names with their values, in order of name, no name twice, with at most 8,192
-/// bytes in all names and values ("Setting and retrieving properties and metadata" of Azure Files; the order is this
-/// profile's rule).
+/// The most names that metadata has.
+pub const MAX_META_NAMES: usize = 64;
+
+/// The most bytes that all names and values of metadata have.
+pub const MAX_META_BYTES: usize = 8192;
+
+/// The metadata of a share, directory or file: names with their values, in order of name, no name twice, with at most
+/// 64 names and at most 8,192 bytes in all names and values ("Setting and retrieving properties and metadata" of
+/// Azure Files; the order and the number of names are this profile's rules).
 #[derive(Debug, Drop)]
 pub struct Meta {
     pairs: Items<MetaPair>,
@@ -22,7 +32,7 @@ impl Model for Meta {
 
     ghost Value = { List MetaPair };
 
-    ghost use Rattle.sx_names.specs.Metadata.{is_meta, is_meta_pair, meta_length};
+    ghost use Rattle.sx_names.specs.Meta.{is_meta, is_meta_pair, meta_length};
 
     ghost view = { λ m. m.pairs };
 
@@ -31,7 +41,7 @@ impl Model for Meta {
 
 impl Meta {
     /// No metadata. It takes no memory, and keeps the allocator for later pairs.
-    #[tactic(auto, unfolding(crate::specs::Metadata::is_meta))]
+    #[tactic(auto, unfolding(crate::specs::Meta::is_meta))]
     pub fn new(alloc: Global) -> Meta
         ensures { result ≡ [] }
     {
@@ -41,12 +51,13 @@ impl Meta {
         }
     }
 
-    /// Whether the pair may stand behind the others: its name comes after theirs, and all have at most 8,192 bytes.
+    /// Whether the pair may stand behind the others: its name comes after theirs, and all are at most 64 names with
+    /// at most 8,192 bytes.
     pub fn takes(&self, pair: &MetaPair) -> bool
         ensures { result ≡ is_meta (self.now ++ pair.now ∷ []) }
     {
-        let length = self.length() + pair_length(pair);
-        follows_last(self.pairs.as_slice(), pair) && length <= 8192
+        let has_room = self.has_room(pair);
+        follows_last(self.pairs.as_slice(), pair) && has_room
     }
 
     /// Puts a pair behind the others.
@@ -62,12 +73,12 @@ impl Meta {
     }
 
     /// An equal value of its own.
-    pub fn copy(&self, alloc: Global) -> Result<Meta, NoMemory>
+    pub fn copy(&self) -> Result<Meta, NoMemory>
         ensures { IfOk result (λ m. m ≡ self.now) }
     {
-        let mut pairs = Items::new(alloc);
+        let mut pairs = Items::new(self.pairs.allocator());
         for pair in self.pairs.as_slice() {
-            pairs.push(pair.copy(alloc)?)?;
+            pairs.push(pair.copy()?)?;
         }
         Ok(Meta {
             pairs,
@@ -79,6 +90,7 @@ impl Meta {
     pub fn pairs(&self) -> &[MetaPair]
         ensures value { result.now ≡ self.now }
         ensures meta { is_meta self.now ≡ true }
+        ensures few { length self.now ≤ MAX_META_NAMES }
     {
         self.pairs.as_slice()
     }
@@ -86,9 +98,18 @@ impl Meta {
     /// The bytes of all names and values.
     pub fn length(&self) -> usize
         ensures value { result ≡ meta_length self.now }
-        ensures short { result ≤ 8192 }
+        ensures short { result ≤ MAX_META_BYTES }
     {
         self.length
+    }
+
+    /// Whether there may be a name more, and so many bytes more.
+    fn has_room(&self, pair: &MetaPair) -> bool
+        ensures value { result ≡ has_room self.now pair.now }
+        ensures pair { is_meta_pair pair.now ≡ true }
+    {
+        let length = self.length() + pair_length(pair);
+        self.pairs.len() < MAX_META_NAMES && length <= MAX_META_BYTES
     }
 }
 

@@ -1,11 +1,15 @@
+//! A name of metadata with its value.
+
 ghost use Rattle.std.specs.Prelude.{◌≡◌, ◌≤◌, true, if◌then◌else◌, IfOk, Some, None, bytes_eq, length};
 ghost use Rattle.std.specs.List.{list_all};
-ghost use Rattle.sx_names.specs.Fields.{is_meta_name, is_meta_byte, is_digit_byte};
+ghost use Rattle.sx_names.specs.MetaPair.{is_meta_name, is_meta_byte, is_digit_byte};
 
 use crate::header::HeaderText;
-use std::alloc::Global;
 use std::marker::Model;
 use sx_base::{Items, NoMemory};
+
+/// The most bytes that a name of metadata has.
+pub const MAX_META_NAME_BYTES: usize = 128;
 
 /// The name of a metadata value: 1 to 128 lower-case letters, digits and underscores, the first of them no digit.
 #[derive(Debug, Drop, PartialEq)]
@@ -15,7 +19,7 @@ pub struct MetaName {
 
 impl Model for MetaName {
     ghost use Rattle.std.specs.Prelude.{◌≡◌, List, ℕ, true};
-    ghost use Rattle.sx_names.specs.Fields.{is_meta_name};
+    ghost use Rattle.sx_names.specs.MetaPair.{is_meta_name};
 
     ghost Value = { List ℕ };
 
@@ -38,15 +42,15 @@ impl MetaName {
     }
 
     /// An equal name of its own.
-    pub fn copy(&self, alloc: Global) -> Result<MetaName, NoMemory>
+    pub fn copy(&self) -> Result<MetaName, NoMemory>
         ensures { IfOk result (λ n. n ≡ self.now) }
     {
-        let bytes = self.bytes.copy(alloc)?;
+        let bytes = self.bytes.copy()?;
         Ok(MetaName { bytes })
     }
 
     /// The name's bytes.
-    #[tactic(auto, unfolding(crate::specs::Fields::is_meta_name))]
+    #[tactic(auto, unfolding(crate::specs::MetaPair::is_meta_name))]
     pub fn bytes(&self) -> &[u8]
         ensures value { result.now ≡ self.now }
         ensures name { is_meta_name self.now ≡ true }
@@ -63,11 +67,14 @@ impl MetaName {
     }
 }
 
-#[tactic(auto, unfolding(crate::specs::Fields::is_meta_name))]
+#[tactic(auto, unfolding(crate::specs::MetaPair::is_meta_name))]
 fn is_meta_name(name: &[u8]) -> bool
     ensures { result ≡ is_meta_name name.now }
 {
-    1 <= name.len() && name.len() <= 128 && all_meta_bytes(name) && !is_digit(name[0])
+    1 <= name.len()
+        && name.len() <= MAX_META_NAME_BYTES
+        && all_meta_bytes(name)
+        && !is_digit(name[0])
 }
 
 fn all_meta_bytes(name: &[u8]) -> bool
@@ -99,12 +106,12 @@ pub struct MetaPair {
 
 impl MetaPair {
     /// An equal pair of its own.
-    pub fn copy(&self, alloc: Global) -> Result<MetaPair, NoMemory>
+    pub fn copy(&self) -> Result<MetaPair, NoMemory>
         ensures { IfOk result (λ p. p ≡ self.now) }
     {
         Ok(MetaPair {
-            name: self.name.copy(alloc)?,
-            value: self.value.copy(alloc)?,
+            name: self.name.copy()?,
+            value: self.value.copy()?,
         })
     }
 }

@@ -1,10 +1,15 @@
+//! A page of a listing of a directory.
+
 ghost use Rattle.std.specs.Prelude.{◌≡◌, ◌≤◌, IfOk, min};
 ghost use Rattle.sx_names.specs.Limits.{IsPageSize};
+ghost use Rattle.sx_names.specs.declared.page.TheConstants.{MAX_RESULTS};
 
 use crate::text::Text;
-use std::alloc::Global;
 use std::marker::Model;
 use sx_base::{Items, NoMemory};
+
+/// The most results that a page of a listing has.
+pub const MAX_RESULTS: u32 = 5000;
 
 /// How many results a page of a listing has at most: 1 to 5,000. Contracts see the number.
 #[derive(Clone, Copy, Debug, PartialEq, Eq)]
@@ -29,10 +34,10 @@ impl PageSize {
     /// A page of so many results. More than 5,000 count as 5,000.
     pub fn of(results: u32) -> PageSize
         requires { 1 ≤ results }
-        ensures { result ≡ min results 5000 }
+        ensures { result ≡ min results MAX_RESULTS }
     {
         PageSize {
-            results: results.min(5000),
+            results: results.min(MAX_RESULTS),
         }
     }
 
@@ -54,17 +59,17 @@ pub struct NameItem {
     pub dir: bool,
     /// The id of the file or directory.
     pub id: u64,
-    /// The file's length, and 0 for a directory.
+    /// The file's length in bytes, and 0 for a directory.
     pub length: u64,
 }
 
 impl NameItem {
     /// An equal item of its own.
-    pub fn copy(&self, alloc: Global) -> Result<NameItem, NoMemory>
+    pub fn copy(&self) -> Result<NameItem, NoMemory>
         ensures { IfOk result (λ item. item ≡ self.now) }
     {
         Ok(NameItem {
-            name: self.name.copy(alloc)?,
+            name: self.name.copy()?,
             dir: self.dir,
             id: self.id,
             length: self.length,
@@ -89,25 +94,25 @@ pub struct NamesPage {
 
 impl NamesPage {
     /// An equal page of its own.
-    pub fn copy(&self, alloc: Global) -> Result<NamesPage, NoMemory>
+    pub fn copy(&self) -> Result<NamesPage, NoMemory>
         ensures { IfOk result (λ page. page ≡ self.now) }
     {
         Ok(NamesPage {
-            prefix: self.prefix.copy(alloc)?,
-            marker: self.marker.copy(alloc)?,
+            prefix: self.prefix.copy()?,
+            marker: self.marker.copy()?,
             max: self.max,
-            items: copy_items(alloc, &self.items)?,
-            next: self.next.copy(alloc)?,
+            items: copy_items(&self.items)?,
+            next: self.next.copy()?,
         })
     }
 }
 
-fn copy_items(alloc: Global, items: &Items<NameItem>) -> Result<Items<NameItem>, NoMemory>
+fn copy_items(items: &Items<NameItem>) -> Result<Items<NameItem>, NoMemory>
     ensures { IfOk result (λ copy. copy ≡ items.now) }
 {
-    let mut copy = Items::new(alloc);
+    let mut copy = Items::new(items.allocator());
     for item in items.as_slice() {
-        copy.push(item.copy(alloc)?)?;
+        copy.push(item.copy()?)?;
     }
     Ok(copy)
 }

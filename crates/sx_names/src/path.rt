@@ -1,8 +1,12 @@
-ghost use Rattle.std.specs.Prelude.{◌≡◌, ◌∷◌, ◌≤◌, ◌-◌, [], true, is_none, nat_lt, IfOk, length, slice_get};
+//! A path from the root of a share.
+
+ghost use Rattle.std.specs.Prelude.{◌≡◌, ◌∷◌, ◌≤◌, ◌-◌, [], true, false, None, is_none, nat_lt, IfOk, length};
+ghost use Rattle.std.specs.Prelude.{slice_get};
 ghost use Rattle.std.specs.List.{list_all};
 ghost use Rattle.std.specs.Option.{option_copied};
 ghost use Rattle.sx_names.specs.Names.{is_part, is_path, path_length};
-ghost use Rattle.sx_names.specs.Rules.{fault_in, parts_fault, path_fault};
+ghost use Rattle.sx_names.specs.declared.path.TheConstants.{MAX_PARTS, MAX_PATH_CHARS};
+ghost use Rattle.sx_names.specs.Fault.{fault_in, parts_fault, path_fault, whole_fault, path_of};
 
 use crate::fault::{NameFault, NameRule, Unnamed};
 use crate::part::{Part, count_chars, part_fault};
@@ -11,8 +15,14 @@ use std::alloc::Global;
 use std::marker::Model;
 use sx_base::{Items, NoMemory};
 
-/// A path from the root of a share: at most 250 parts with at most 2,048 characters, the slashes between them counted. The
-/// empty path is the root.
+/// The most parts that a path has.
+pub const MAX_PARTS: usize = 250;
+
+/// The most characters that a path has, with the slashes between its parts.
+pub const MAX_PATH_CHARS: usize = 2048;
+
+/// A path from the root of a share: at most 250 parts with at most 2,048 characters, the slashes between them
+/// counted. The empty path is the root.
 #[derive(Debug, Drop)]
 pub struct Path {
     parts: Items<Part>,
@@ -32,8 +42,8 @@ impl Model for Path {
 impl Path {
     /// Reads exactly the paths, part by part.
     ///
-    /// The fault is the first rule that is broken: that of the first part that is no name, with its number from 1 on, and else
-    /// `Deep` and then `PathLong`, both with part 0 and place 0.
+    /// The fault is the first rule that is broken: that of the first part that is no name, with its number from 1 on,
+    /// and else `Deep` and then `PathLong`, both with part 0 and place 0.
     pub fn read(alloc: Global, parts: &[Text]) -> Result<Path, Unnamed>
         ensures path { IfOk result (λ p. (p ≡ parts.now) × (is_path parts.now ≡ true)) }
         ensures fault { fault_in result ≡ path_fault parts.now }
@@ -42,7 +52,20 @@ impl Path {
         if let Some(fault) = path_fault(parts) {
             return Err(Unnamed::Fault(fault));
         }
-        let parts = kept_parts(alloc, parts)?;
+        let parts = named_parts(alloc, parts)?;
+        Ok(Path { parts })
+    }
+
+    /// The path of these parts, where there are not too many and they are not too long. It takes no memory.
+    ///
+    /// The fault is `Deep` or else `PathLong`, both with part 0 and place 0.
+    pub fn of_parts(parts: Items<Part>) -> Result<Path, NameFault>
+        ensures path { result ≡ path_of parts }
+        ensures rules { is_path parts ≡ is_none (whole_fault parts) }
+    {
+        if let Some(fault) = whole_fault(parts.as_slice()) {
+            return Err(fault);
+        }
         Ok(Path { parts })
     }
 
@@ -59,7 +82,7 @@ impl Path {
     pub fn parts(&self) -> &[Part]
         ensures value { result.now ≡ self.now }
         ensures path { is_path self.now ≡ true }
-        ensures short { length self.now ≤ 250 }
+        ensures short { length self.now ≤ MAX_PARTS }
     {
         self.parts.as_slice()
     }
@@ -76,30 +99,46 @@ impl Path {
     }
 
     /// An equal path of its own.
-    pub fn copy(&self, alloc: Global) -> Result<Path, NoMemory>
+    pub fn copy(&self) -> Result<Path, NoMemory>
         ensures { IfOk result (λ p. p ≡ self.now) }
     {
-        let mut parts = Items::new(alloc);
+        let mut parts = Items::new(self.parts.allocator());
         for part in self.parts.as_slice() {
-            parts.push(part.copy(alloc)?)?;
+            parts.push(part.copy()?)?;
         }
         Ok(Path { parts })
     }
 }
 
 /// The first rule that a path breaks, if it breaks one.
-#[tactic(auto, unfolding(crate::specs::Rules::path_fault))]
-fn path_fault(parts: &[Text]) -> Option<NameFault>
-    ensures fault { result ≡ path_fault parts.now }
-    ensures rules { is_path parts.now ≡ is_none (path_fault parts.now) }
+#[tactic(auto, unfolding(crate::specs::Fault::path_fault))]
+fn path_fault(texts: &[Text]) -> Option<NameFault>
+    ensures fault { result ≡ path_fault texts.now }
+    ensures rules { is_path texts.now ≡ is_none (path_fault texts.now) }
 {
-    if let Some(fault) = parts_fault(parts) {
+    if let Some(fault) = parts_fault(texts) {
         return Some(fault);
     }
-    if 250 < parts.len() {
+    if MAX_PARTS < texts.len() {
         return NameFault::found(NameRule::Deep, 0, 0);
     }
-    if is_long(parts) {
+    if are_long_texts(texts) {
+        return NameFault::found(NameRule::PathLong, 0, 0);
+    }
+    None
+}
+
+/// The first rule that parts break as a path, if they break one.
+#[tactic(auto, unfolding(crate::specs::Fault::whole_fault))]
+fn whole_fault(parts: &[Part]) -> Option<NameFault>
+    ensures fault { result ≡ whole_fault parts.now }
+    ensures rules { is_path parts.now ≡ is_none (whole_fault parts.now) }
+    ensures names { result ≡ None → list_all is_part parts.now ≡ true }
+{
+    if MAX_PARTS < parts.len() {
+        return NameFault::found(NameRule::Deep, 0, 0);
+    }
+    if are_long_parts(parts) {
         return NameFault::found(NameRule::PathLong, 0, 0);
     }
     None
@@ -118,28 +157,51 @@ fn parts_fault(parts: &[Text]) -> Option<NameFault>
     None
 }
 
-/// Whether at most 2,048 parts have more than 2,048 characters, with the slashes between them.
-fn is_long(parts: &[Text]) -> bool
-    requires { length parts.now ≤ 2048 }
-    ensures { result ≡ nat_lt 2048 (path_length parts.now) }
+/// Whether texts have more than 2,048 characters, with the slashes between them.
+fn are_long_texts(texts: &[Text]) -> bool
+    requires { length texts.now ≤ MAX_PARTS }
+    ensures { result ≡ nat_lt MAX_PATH_CHARS (path_length texts.now) }
 {
-    let mut length = parts.len().saturating_sub(1);
-    for part in parts {
-        length += count_chars(part.as_str());
-        if 2048 < length {
+    let mut length = slashes_between(texts.len());
+    for text in texts {
+        length += count_chars(text.as_str());
+        if MAX_PATH_CHARS < length {
             return true;
         }
     }
     false
 }
 
-fn kept_parts(alloc: Global, texts: &[Text]) -> Result<Items<Part>, NoMemory>
+/// Whether parts have more than 2,048 characters, with the slashes between them.
+fn are_long_parts(parts: &[Part]) -> bool
+    requires { length parts.now ≤ MAX_PARTS }
+    ensures long { result ≡ nat_lt MAX_PATH_CHARS (path_length parts.now) }
+    ensures names { result ≡ false → list_all is_part parts.now ≡ true }
+{
+    let mut length = slashes_between(parts.len());
+    for part in parts {
+        length += part.count_chars();
+        if MAX_PATH_CHARS < length {
+            return true;
+        }
+    }
+    false
+}
+
+/// How many slashes stand between so many parts.
+fn slashes_between(parts: usize) -> usize
+    ensures { result ≡ parts - 1 }
+{
+    parts.saturating_sub(1)
+}
+
+fn named_parts(alloc: Global, texts: &[Text]) -> Result<Items<Part>, NoMemory>
     requires { list_all is_part texts.now ≡ true }
     ensures { IfOk result (λ parts. parts ≡ texts.now) }
 {
     let mut parts = Items::new(alloc);
     for text in texts {
-        parts.push(Part::kept_of(alloc, text.bytes())?)?;
+        parts.push(Part::of_name(alloc, text.bytes())?)?;
     }
     Ok(parts)
 }

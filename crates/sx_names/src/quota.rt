@@ -1,7 +1,12 @@
+//! The quota of a share.
+
 ghost use Rattle.std.specs.Prelude.{◌≡◌};
 ghost use Rattle.sx_names.specs.Limits.{IsQuota};
 
 use std::marker::Model;
+
+/// The greatest quota of a share, in GiB.
+pub const MAX_QUOTA: u32 = 5120;
 
 /// A share's quota: 1 to 5,120 GiB ("Create Share" of Azure Files). Contracts see the number of GiB.
 #[derive(Clone, Copy, Debug, PartialEq, Eq)]

@@ -1,12 +1,20 @@
+//! The name of a share.
+
 ghost use Rattle.std.specs.Prelude.{◌≡◌, ◌<◌, true, is_none, IfOk, IfSome, bytes_eq, length};
 ghost use Rattle.std.specs.List.{find, position, range_with_len};
 ghost use Rattle.sx_names.specs.Names.{is_share_name, is_lower_or_digit, is_share_byte, is_hyphens_at};
-ghost use Rattle.sx_names.specs.Rules.{share_fault, fault_in, is_other_byte};
+ghost use Rattle.sx_names.specs.Fault.{share_fault, fault_in, is_other_byte};
 
 use crate::fault::{NameFault, NameRule, Unnamed};
 use std::alloc::Global;
 use std::marker::Model;
 use sx_base::{Items, NoMemory};
+
+/// The fewest bytes that the name of a share has.
+pub const MIN_SHARE_BYTES: usize = 3;
+
+/// The most bytes that the name of a share has.
+pub const MAX_SHARE_BYTES: usize = 63;
 
 /// The name of a share: 3 to 63 lower-case letters, digits and hyphens, with a letter or digit at both ends and no two
 /// hyphens in a row ("Naming and referencing shares, directories, files, and metadata" of Azure Files).
@@ -27,11 +35,21 @@ impl Model for ShareName {
 }
 
 impl ShareName {
+    /// The first rule that bytes break as the name of a share, or none where they are one. It takes no memory.
+    ///
+    /// The rules are tried in the order `Short`, `Long`, `Char`, `Edge` and `Hyphens`, and the part is 0. The place
+    /// is 0 for `Short`, that of the 64th byte for `Long`, that of the second hyphen for `Hyphens`, and else that of
+    /// the first byte that breaks the rule.
+    pub fn fault(bytes: &[u8]) -> Option<NameFault>
+        ensures fault { result ≡ share_fault bytes.now }
+        ensures rules { is_share_name bytes.now ≡ is_none (share_fault bytes.now) }
+    {
+        share_fault(bytes)
+    }
+
     /// Reads exactly the names of shares.
     ///
-    /// The fault is the first rule that is broken, of `Short`, `Long`, `Char`, `Edge` and `Hyphens`, with part 0. Its place is 0
-    /// for `Short`, that of the 64th byte for `Long`, that of the second hyphen for `Hyphens`, and else that of the first byte
-    /// that breaks it.
+    /// The fault is that of `ShareName::fault`.
     pub fn read(alloc: Global, bytes: &[u8]) -> Result<ShareName, Unnamed>
         ensures name { IfOk result (λ n. (n ≡ bytes.now) × (is_share_name bytes.now ≡ true)) }
         ensures fault { fault_in result ≡ share_fault bytes.now }
@@ -46,11 +64,11 @@ impl ShareName {
     }
 
     /// An equal name of its own.
-    pub fn copy(&self, alloc: Global) -> Result<ShareName, NoMemory>
+    pub fn copy(&self) -> Result<ShareName, NoMemory>
         ensures { IfOk result (λ n. n ≡ self.now) }
     {
         Ok(ShareName {
-            bytes: self.bytes.copy(alloc)?,
+            bytes: self.bytes.copy()?,
         })
     }
 
@@ -71,16 +89,16 @@ impl ShareName {
 }
 
 /// The first rule that bytes break as the name of a share, if they break one.
-#[tactic(auto, unfolding(crate::specs::Rules::share_fault))]
+#[tactic(auto, unfolding(crate::specs::Fault::share_fault))]
 fn share_fault(bytes: &[u8]) -> Option<NameFault>
     ensures fault { result ≡ share_fault bytes.now }
     ensures rules { is_share_name bytes.now ≡ is_none (share_fault bytes.now) }
 {
-    if bytes.len() < 3 {
+    if bytes.len() < MIN_SHARE_BYTES {
         return NameFault::found(NameRule::Short, 0, 0);
     }
-    if 63 < bytes.len() {
-        return NameFault::found(NameRule::Long, 0, 63);
+    if MAX_SHARE_BYTES < bytes.len() {
+        return NameFault::found(NameRule::Long, 0, MAX_SHARE_BYTES);
     }
     if let Some(at) = other_byte(bytes) {
         return NameFault::found(NameRule::Char, 0, at);

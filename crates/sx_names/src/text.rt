@@ -1,7 +1,12 @@
-ghost use Rattle.std.specs.Prelude.{◌≡◌, true, if◌then◌else◌, IfOk, Some, None, bytes_eq};
+//! Texts that contracts see as the list of their bytes.
+
+ghost use Rattle.std.specs.Prelude.{◌≡◌, ◌++◌, [], true, if◌then◌else◌, IfOk, OnOk, OnErr, Some, None, bytes_eq};
+ghost use Rattle.std.specs.Fmt.{decimal};
 ghost use Rattle.std.specs.Str.{is_utf8};
+ghost use Rattle.sx_names.specs.Names.{fold};
 
 use crate::part::as_text;
+use itoa::Buffer;
 use std::alloc::Global;
 use std::marker::Model;
 use sx_base::{Items, NoMemory};
@@ -26,6 +31,15 @@ impl Model for Text {
 }
 
 impl Text {
+    /// The empty text. It takes no memory, and keeps the allocator for what is appended.
+    pub fn new(alloc: Global) -> Text
+        ensures { result ≡ [] }
+    {
+        Text {
+            bytes: Items::new(alloc),
+        }
+    }
+
     /// The text of these bytes, where they are UTF-8. It takes no memory.
     pub fn of(bytes: Items<u8>) -> Option<Text>
         ensures { result ≡ (if is_utf8 bytes then Some bytes else None) }
@@ -45,11 +59,36 @@ impl Text {
     }
 
     /// An equal text of its own.
-    pub fn copy(&self, alloc: Global) -> Result<Text, NoMemory>
+    pub fn copy(&self) -> Result<Text, NoMemory>
         ensures { IfOk result (λ t. t ≡ self.now) }
     {
-        let bytes = self.bytes.copy(alloc)?;
+        let bytes = self.bytes.copy()?;
         Ok(Text { bytes })
+    }
+
+    /// The full case folding of the text, as names are compared by it.
+    pub fn folded(&self) -> Result<Text, NoMemory>
+        ensures { IfOk result (λ t. (t ≡ fold self.now) × (is_utf8 (fold self.now) ≡ true)) }
+    {
+        let bytes = folded_text(self.bytes.allocator(), self.as_str())?;
+        Ok(Text { bytes })
+    }
+
+    /// Puts a text behind this one.
+    pub fn append(&mut self, text: &str) -> Result<(), NoMemory>
+        ensures ok { OnOk result (self.new ≡ self.old ++ text.now) }
+        ensures err { OnErr result (self.new ≡ self.old) }
+    {
+        self.bytes.append(text.as_bytes())
+    }
+
+    /// Puts a number in decimal digits without leading zeros behind the text.
+    pub fn append_decimal(&mut self, number: u64) -> Result<(), NoMemory>
+        ensures ok { OnOk result (self.new ≡ self.old ++ decimal number) }
+        ensures err { OnErr result (self.new ≡ self.old) }
+    {
+        let mut buffer = Buffer::new();
+        self.append(buffer.format(number))
     }
 
     /// The text's bytes.
@@ -58,6 +97,14 @@ impl Text {
         ensures utf8 { is_utf8 self.now ≡ true }
     {
         self.bytes.as_slice()
+    }
+
+    /// The text's bytes as the vector that holds them. It takes no memory.
+    pub fn into_vec(self) -> Vec<u8>
+        ensures value { result.items ≡ self }
+        ensures utf8 { is_utf8 self ≡ true }
+    {
+        self.bytes.into_vec()
     }
 
     /// The text.
@@ -76,6 +123,15 @@ impl Text {
     {
         self.bytes.same(&other.bytes)
     }
+}
+
+/// The bytes of a text's full case folding.
+#[tactic(auto, unfolding(crate::specs::Names::fold))]
+pub(crate) fn folded_text(alloc: Global, text: &str) -> Result<Items<u8>, NoMemory>
+    ensures { IfOk result (λ bytes. (bytes ≡ fold text.now) × (is_utf8 bytes ≡ true)) }
+{
+    let folded = caseless::default_case_fold_str(alloc, text)?;
+    Ok(Items::of(folded.into_bytes()))
 }
 
 fn is_utf8(bytes: &[u8]) -> bool

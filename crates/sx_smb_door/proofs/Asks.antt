@@ -1,29 +1,30 @@
 -- What a session's calls get from an office, and that their replies have lines.
 use Rattle.std.proofs.Common.{ℕ, ◌+◌, ◌≡◌, ◌⊎◌, Bool, true, false, cond, List, [], ◌∷◌, Option, Some, None, length, ◌<◌, refl, ap, ◌∙◌, inl, inr, subst}
-use Rattle.sx_call.specs.declared.call.Call.{Call}
-use Rattle.sx_call.specs.declared.call.Call.TheVariants.{CreateShare, Start, End, SmbOpen, SmbClose, SmbRead, SmbWrite}
-use Rattle.sx_call.specs.declared.call.Entry.{Entry}
-use Rattle.sx_call.specs.declared.call.How.{How}
-use Rattle.sx_call.specs.declared.call.How.TheVariants.{Existing, Create}
-use Rattle.sx_call.specs.declared.held.Open.{Open}
-use Rattle.sx_call.specs.declared.reply.Refusal.{Refusal}
-use Rattle.sx_call.specs.declared.reply.Refusal.TheVariants as refusal
-use Rattle.sx_call.specs.declared.reply.Stop.{Stop}
-use Rattle.sx_call.specs.declared.reply.Stop.TheVariants.{NoMemory, HistoryFull}
-use Rattle.sx_tree.specs.declared.node.Found.{Found}
-use Rattle.sx_tree.specs.declared.node.Found.TheVariants as found
-use Rattle.sx_tree.specs.declared.node.Node.{Node}
-use Rattle.sx_tree.specs.Files.{is_directory}
-use Rattle.sx_spec.specs.Account.{Account, open_of, place_of, node_in}
-use Rattle.sx_spec.specs.FirstRefusal.{first, first_open, first_of, share_check, parent_check, node_found, kind_found, file_wanted, handle_check}
-use Rattle.sx_spec.specs.History.{wants}
-use Rattle.sx_spec.specs.Step.{step, outcome, replay, said, opens_say, opened_says}
-use Rattle.sx_book.specs.Passes.{PassView, HoldsSession, TookPlace, TookNone}
+use Rattle.sx_stage_call.specs.declared.call.Call.{Call}
+use Rattle.sx_stage_call.specs.declared.call.Call.TheVariants.{CreateShare, Start, End, SmbOpen, SmbClose, SmbRead}
+use Rattle.sx_stage_call.specs.declared.call.Call.TheVariants.{SmbWrite}
+use Rattle.sx_stage_call.specs.declared.call.Entry.{Entry}
+use Rattle.sx_stage_call.specs.declared.call.How.{How}
+use Rattle.sx_stage_call.specs.declared.call.How.TheVariants.{Existing, Create}
+use Rattle.sx_stage_call.specs.declared.held.Open.{Open}
+use Rattle.sx_stage_call.specs.declared.reply.Refusal.{Refusal}
+use Rattle.sx_stage_call.specs.declared.reply.Refusal.TheVariants as refusal
+use Rattle.sx_stage_call.specs.declared.reply.Stop.{Stop}
+use Rattle.sx_stage_call.specs.declared.reply.Stop.TheVariants.{NoMemory, HistoryFull}
+use Rattle.sx_stage_tree.specs.declared.node.Found.{Found}
+use Rattle.sx_stage_tree.specs.declared.node.Found.TheVariants as found
+use Rattle.sx_stage_tree.specs.declared.node.Node.{Node}
+use Rattle.sx_stage_tree.specs.Files.{is_directory}
+use Rattle.sx_stage_spec.specs.Account.{Account, open_of, place_of, node_in}
+use Rattle.sx_stage_spec.specs.FirstRefusal.{first_refusal, first_open_refusal, first_of, share_check, parent_check, node_found, kind_found, file_wanted, handle_check}
+use Rattle.sx_stage_spec.specs.History.{wants}
+use Rattle.sx_stage_spec.specs.Step.{step, outcome, replay, reply_to, open_reply, open_reply_at}
+use Rattle.sx_book.specs.Passes.{PassView, HoldsSession, Appends, AppendsNone}
 use Rattle.sx_book.specs.declared.pass.Receipt.{Receipt}
-use Rattle.sx_smb_door.specs.Asking.{IsAsked, IsBooked, IsCrowded, IsStarved, noted_stop}
+use Rattle.sx_smb_door.specs.Asking.{IsAsked, IsAppended, IsHistoryFull, IsOutOfMemory, tally_with_stop}
 use Rattle.sx_smb_door.specs.Conversation.{entry_of, full_of}
-use Rattle.sx_smb_door.specs.SessionLines.{has_line, has_word, is_printed}
-use Rattle.sx_smb_door.specs.Spelling.{is_session_call}
+use Rattle.sx_smb_door.specs.Answer.{has_line, has_word, is_printed}
+use Rattle.sx_smb_door.specs.Parse.{is_session_call}
 use Rattle.sx_smb_door.specs.declared.answer.LineAnswer.{LineAnswer}
 use Rattle.sx_smb_door.specs.declared.answer.LineAnswer.TheVariants.{Core, Stop as Stopped}
 use Rattle.sx_smb_door.specs.declared.tally.Tally.{Tally}
@@ -71,7 +72,7 @@ kind_word a n (found.Node id) = wanted_word id (node_in a.shares n id)
 kind_word a n (found.Missing parent) = tt
 kind_word a n (found.NoParent parts) = tt
 
-open_word : (a : Account) (how : How) (p : Option (ℕ × Found)) → HasWord (first_open a how p)
+open_word : (a : Account) (how : How) (p : Option (ℕ × Found)) → HasWord (first_open_refusal a how p)
 unfolding HasWord
 open_word a how None = refl
 open_word a how (Some p) = first_word (parent_check (Some p)) _ (parent_word p.1 p.0) (first_word (node_found how p.1) _ (node_word how p.1) (first_word (kind_found a p.0 p.1) [] (kind_word a p.0 p.1) tt))
@@ -81,7 +82,7 @@ unfolding HasWord
 handle_word s index None = refl
 handle_word s index (Some o) = tt
 
-refusal_word : (a : Account) (s : ℕ) (call : Call) → is_session_call call ≡ true → HasWord (first a s call)
+refusal_word : (a : Account) (s : ℕ) (call : Call) → is_session_call call ≡ true → HasWord (first_refusal a s call)
 refusal_word a s (CreateShare share quota) h = absurd (false_true h)
 refusal_word a s (Start peer) h = absurd (false_true h)
 refusal_word a s End h = absurd (false_true h)
@@ -90,16 +91,16 @@ refusal_word a s (SmbClose index) h = handle_word s index (open_of a s index)
 refusal_word a s (SmbRead index from count) h = handle_word s index (open_of a s index)
 refusal_word a s (SmbWrite index update) h = handle_word s index (open_of a s index)
 
-found_line : (a : Account) (s n : ℕ) (f : Found) → has_line (opened_says a s n f) ≡ true
+found_line : (a : Account) (s n : ℕ) (f : Found) → has_line (open_reply_at a s n f) ≡ true
 found_line a s n (found.Node id) = refl
 found_line a s n (found.Missing parent) = refl
 found_line a s n (found.NoParent parts) = refl
 
-open_line : (a : Account) (s : ℕ) (p : Option (ℕ × Found)) → has_line (opens_say a s p) ≡ true
+open_line : (a : Account) (s : ℕ) (p : Option (ℕ × Found)) → has_line (open_reply a s p) ≡ true
 open_line a s None = refl
 open_line a s (Some p) = found_line a s p.0 p.1
 
-said_line : (a : Account) (s : ℕ) (call : Call) → is_session_call call ≡ true → has_line (said a s call) ≡ true
+said_line : (a : Account) (s : ℕ) (call : Call) → is_session_call call ≡ true → has_line (reply_to a s call) ≡ true
 said_line a s (CreateShare share quota) h = absurd (false_true h)
 said_line a s (Start peer) h = absurd (false_true h)
 said_line a s End h = absurd (false_true h)
@@ -115,14 +116,14 @@ outcome_line a w s at call (Some r) h k = k
 
 -- the reply of a session's call has a line
 pub reply_line : (a : Account) (e : Entry) → is_session_call e.call ≡ true → has_line (step a e).1 ≡ true
-reply_line a e h = outcome_line a e.who e.session e.at e.call (first a e.session e.call) h (refusal_word a e.session e.call h)
+reply_line a e h = outcome_line a e.who e.session e.at e.call (first_refusal a e.session e.call) h (refusal_word a e.session e.call h)
 
 -- ---- what an office answers
 -- a call that took a place
-pub booked_call : {C : Type 0} (session : ℕ) (ticks : C → ℕ → C → Type 0) (call : Call) (old new : PassView) (clock clock' : C) (tally tally' : Tally) (moment : ℕ) (r : Receipt)
-    → is_session_call call ≡ true → HoldsSession new session → ticks clock moment clock' → TookPlace old session moment 0 call r new → tally' ≡ record tally { asked = tally.asked + 1 }
+pub appended_call : {C : Type 0} (session : ℕ) (ticks : C → ℕ → C → Type 0) (call : Call) (old new : PassView) (clock clock' : C) (tally tally' : Tally) (moment : ℕ) (r : Receipt)
+    → is_session_call call ≡ true → HoldsSession new session → ticks clock moment clock' → Appends old session moment 0 call r new → tally' ≡ record tally { asked = tally.asked + 1 }
     → IsAsked session ticks call old new clock clock' tally tally' (Core r.place r.reply)
-booked_call {C} session ticks call old new clock clock' tally tally' moment r h held told took counted =
+appended_call {C} session ticks call old new clock clock' tally tally' moment r h held told took counted =
     let e : Entry = entry_of old.number session took.log moment call in
     let answer : Core r.place r.reply ≡ Core (length took.log + 1) (step (replay took.log) e).1 = ap (λ (x : Receipt). Core x.place x.reply) took.receipt in
     record {
@@ -135,7 +136,7 @@ booked_call {C} session ticks call old new clock clock' tally tally' moment r h 
 
 -- a call that took none
 pub stopped_call : {C : Type 0} (session : ℕ) (ticks : C → ℕ → C → Type 0) (call : Call) (old new : PassView) (clock clock' : C) (tally tally' : Tally) (moment : ℕ) (s : Stop)
-    → HoldsSession new session → ticks clock moment clock' → TookNone old call s new → tally' ≡ noted_stop (record tally { asked = tally.asked + 1 }) s
+    → HoldsSession new session → ticks clock moment clock' → AppendsNone old call s new → tally' ≡ tally_with_stop (record tally { asked = tally.asked + 1 }) s
     → IsAsked session ticks call old new clock clock' tally tally' (Stopped s)
 stopped_call {C} session ticks call old new clock clock' tally tally' moment NoMemory held told took counted = record {
   moment = moment;

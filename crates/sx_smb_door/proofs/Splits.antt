@@ -7,7 +7,7 @@ use Rattle.std.proofs.lemmas.List.{take-append-drop, get_or-take, get_or-drop, l
 use Rattle.std.proofs.lemmas.List.Quantifiers.{position-Some}
 use Rattle.std.proofs.lemmas.List.Sums.{fails_before_first, position_or_len_is}
 use Rattle.std.proofs.lemmas.Grind.{common_steps}
-use Rattle.sx_smb_door.specs.Lines.{is_line_end, IsOneLine, BeginsUnended, ended}
+use Rattle.sx_smb_door.specs.Lines.{is_line_end, IsOneLine, BeginsUnended, with_line_feed}
 
 none_cond : (b : Bool) (i : ℕ) → cond b (Some i) None ≡ None → b ≡ false
 none_cond true i e = cc
@@ -32,7 +32,7 @@ one_front bytes i n e le =
     )
 
 -- the bytes are their first line with its end, and the rest
-pub first_line : (bytes : List ℕ) (i : ℕ) → position is_line_end bytes ≡ Some i → bytes ≡ ended (take i bytes) ++ drop (i + 1) bytes
+pub first_line : (bytes : List ℕ) (i : ℕ) → position is_line_end bytes ≡ Some i → bytes ≡ with_line_feed (take i bytes) ++ drop (i + 1) bytes
 first_line bytes i e =
     let at = position-Some is_line_end bytes i 0 e in
     let here : get_or bytes i 0 ≡ 10 = eqb-true (get_or bytes i 0) 10 at.1 in

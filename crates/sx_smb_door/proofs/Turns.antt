@@ -4,55 +4,55 @@ use Rattle.std.specs.List.{flat_map}
 use Rattle.std.specs.Io.KnownBytes.{Consumes}
 use Rattle.std.proofs.lemmas.List.{append-nil}
 use Rattle.std.proofs.lemmas.List.Concat.{flat_map-append}
-use Rattle.sx_base.specs.Told.{Told}
-use Rattle.sx_base.proofs.Moments.{told_append}
+use Rattle.sx_base.specs.Clock.{StepsThrough}
+use Rattle.sx_base.proofs.Steps.{steps_append}
 use Rattle.sx_base.proofs.Streams.{consumes_more, consumes_none}
-use Rattle.sx_call.specs.declared.call.Call.{Call}
-use Rattle.sx_call.specs.declared.call.Noted.{Noted}
+use Rattle.sx_stage_call.specs.declared.call.Call.{Call}
+use Rattle.sx_stage_call.specs.declared.call.Noted.{Noted}
 use Rattle.sx_book.specs.Passes.{PassView}
-use Rattle.sx_smb_door.specs.Asking.{no_tally, speaker, with_places, IsAsked, IsBooked, IsCrowded, IsStarved, IsAnswered}
-use Rattle.sx_smb_door.specs.Conversation.{Outcome, unbuilt, unread, booked, crowded, starved, Turn, Speaker, MayTurn, MayTurns, seen_after, seen_of, places_of, places_taken, tally_after, tally_of, lines_of, moments_of, moments_told, HasText, HasPrefix, HasBegun}
+use Rattle.sx_smb_door.specs.Asking.{no_tally, caller_in, with_places, IsAsked, IsAppended, IsHistoryFull, IsOutOfMemory, IsAnswered}
+use Rattle.sx_smb_door.specs.Conversation.{LineOutcome, not_a_call, not_parsed, appended, history_full, no_memory, AnsweredLine, Caller, HasOutcome, HaveOutcomes, seen_after, seen_after_all, places_of, places_of_all, tally_after, tally_after_all, line_bytes, moments_of, moments_of_all, HasText, HasPrefix, HasBegun}
 use Rattle.sx_smb_door.specs.Limits.{line_limit}
-use Rattle.sx_smb_door.specs.Lines.{ended, IsOneLine}
-use Rattle.sx_smb_door.specs.Spelling.{call_of}
+use Rattle.sx_smb_door.specs.Lines.{with_line_feed, IsOneLine}
+use Rattle.sx_smb_door.specs.Parse.{call_of}
 use Rattle.sx_smb_door.specs.declared.answer.LineAnswer.{LineAnswer}
 use Rattle.sx_smb_door.specs.declared.tally.Tally.{Tally}
 
-pub may_more : (w : Speaker) (seen : List Noted) (ts : List Turn) (t : Turn) → MayTurns w seen ts → IsOneLine t.line → length t.line ≤ line_limit → MayTurn w (seen_of w seen ts) t.line t.outcome → MayTurns w seen (ts ++ t ∷ [])
+pub may_more : (w : Caller) (seen : List Noted) (ts : List AnsweredLine) (t : AnsweredLine) → HaveOutcomes w seen ts → IsOneLine t.line → length t.line ≤ line_limit → HasOutcome w (seen_after_all w seen ts) t.line t.outcome → HaveOutcomes w seen (ts ++ t ∷ [])
 may_more w seen [] t h one short may = (one, short, may, tt)
 may_more w seen (u ∷ ts) t h one short may = (h.0, h.1, h.2, may_more w (seen_after w seen u.outcome) ts t h.3 one short may)
 
-pub seen_more : (w : Speaker) (seen : List Noted) (ts : List Turn) (t : Turn) → seen_of w seen (ts ++ t ∷ []) ≡ seen_after w (seen_of w seen ts) t.outcome
+pub seen_more : (w : Caller) (seen : List Noted) (ts : List AnsweredLine) (t : AnsweredLine) → seen_after_all w seen (ts ++ t ∷ []) ≡ seen_after w (seen_after_all w seen ts) t.outcome
 seen_more w seen [] t = refl
 seen_more w seen (u ∷ ts) t = seen_more w (seen_after w seen u.outcome) ts t
 
-pub tally_more : (w : Speaker) (tally : Tally) (ts : List Turn) (t : Turn) → tally_of w tally (ts ++ t ∷ []) ≡ tally_after w (tally_of w tally ts) t.outcome
+pub tally_more : (w : Caller) (tally : Tally) (ts : List AnsweredLine) (t : AnsweredLine) → tally_after_all w tally (ts ++ t ∷ []) ≡ tally_after w (tally_after_all w tally ts) t.outcome
 tally_more w tally [] t = refl
 tally_more w tally (u ∷ ts) t = tally_more w (tally_after w tally u.outcome) ts t
 
-pub flat_more : (f : Turn → List ℕ) (ts : List Turn) (t : Turn) → flat_map f (ts ++ t ∷ []) ≡ flat_map f ts ++ f t
+pub flat_more : (f : AnsweredLine → List ℕ) (ts : List AnsweredLine) (t : AnsweredLine) → flat_map f (ts ++ t ∷ []) ≡ flat_map f ts ++ f t
 flat_more f ts t = flat_map-append f ts (t ∷ []) ∙ ap (λ (xs : List ℕ). flat_map f ts ++ xs) (append-nil (f t))
 
 -- the pass after lines
-abbrev pub after_turns : ℕ → List ℕ → PassView → List Turn → PassView
-after_turns session share p turns = with_places p (seen_of (speaker p session share) p.seen turns) (places_taken turns)
+abbrev pub after_turns : ℕ → List ℕ → PassView → List AnsweredLine → PassView
+after_turns session share p turns = with_places p (seen_after_all (caller_in p session share) p.seen turns) (places_of_all turns)
 
 -- the lines that were answered so far, from one stream, pass and clock to another
-pub record Going {C : Type 0} (session : ℕ) (share : List ℕ) (ticks : C → ℕ → C → Type 0) (stream stream' : Option (List ℕ)) (pass pass' : PassView) (clock clock' : C) (tally : Tally) (taken : ℕ) : Type 0 where
-  pub turns : List Turn
-  pub may : MayTurns (speaker pass session share) pass.seen turns
-  pub bytes : Consumes stream stream' (lines_of turns)
-  pub taken_is : taken ≡ length (lines_of turns)
+pub record Going {C : Type 0} (session : ℕ) (share : List ℕ) (ticks : C → ℕ → C → Type 0) (line_stream stream' : Option (List ℕ)) (pass pass' : PassView) (clock clock' : C) (tally : Tally) (taken : ℕ) : Type 0 where
+  pub turns : List AnsweredLine
+  pub may : HaveOutcomes (caller_in pass session share) pass.seen turns
+  pub bytes : Consumes line_stream stream' (line_bytes turns)
+  pub taken_is : taken ≡ length (line_bytes turns)
   pub left : pass' ≡ after_turns session share pass turns
-  pub tallied : tally ≡ tally_of (speaker pass session share) no_tally turns
-  pub told : Told ticks clock (moments_told turns) clock'
+  pub tallied : tally ≡ tally_after_all (caller_in pass session share) no_tally turns
+  pub told : StepsThrough ticks clock (moments_of_all turns) clock'
 
 -- no line yet
-unfoldable pub going_none : {C : Type 0} (session : ℕ) (share : List ℕ) (ticks : C → ℕ → C → Type 0) (stream : Option (List ℕ)) (pass : PassView) (clock : C) → Going session share ticks stream stream pass pass clock clock no_tally 0
-going_none session share ticks stream pass clock = record {
+unfoldable pub going_none : {C : Type 0} (session : ℕ) (share : List ℕ) (ticks : C → ℕ → C → Type 0) (line_stream : Option (List ℕ)) (pass : PassView) (clock : C) → Going session share ticks line_stream line_stream pass pass clock clock no_tally 0
+going_none session share ticks line_stream pass clock = record {
   turns = [];
   may = tt;
-  bytes = consumes_none stream;
+  bytes = consumes_none line_stream;
   taken_is = refl;
   left = ap (λ (m : List ℕ). record pass { mine = m }) (sym (append-nil pass.mine));
   tallied = refl;
@@ -60,32 +60,32 @@ going_none session share ticks stream pass clock = record {
 }
 
 -- the pass after one line more
-pub pass_more : (session : ℕ) (share : List ℕ) (p : PassView) (ts : List Turn) (t : Turn)
-    → with_places (after_turns session share p ts) (seen_after (speaker p session share) (seen_of (speaker p session share) p.seen ts) t.outcome) (places_of t.outcome) ≡ after_turns session share p (ts ++ t ∷ [])
+pub pass_more : (session : ℕ) (share : List ℕ) (p : PassView) (ts : List AnsweredLine) (t : AnsweredLine)
+    → with_places (after_turns session share p ts) (seen_after (caller_in p session share) (seen_after_all (caller_in p session share) p.seen ts) t.outcome) (places_of t.outcome) ≡ after_turns session share p (ts ++ t ∷ [])
 pass_more session share p ts t =
-    let w : Speaker = speaker p session share in
-    let places : (p.mine ++ places_taken ts) ++ places_of t.outcome ≡ p.mine ++ places_taken (ts ++ t ∷ []) =
-    append_assoc p.mine (places_taken ts) (places_of t.outcome) ∙ ap (λ (xs : List ℕ). p.mine ++ xs) (sym (flat_more (λ (u : Turn). places_of u.outcome) ts t)) in
-    ap (λ (x : List Noted). record p { seen = x; mine = (p.mine ++ places_taken ts) ++ places_of t.outcome }) (sym (seen_more w p.seen ts t))
-    ∙ ap (λ (m : List ℕ). record p { seen = seen_of w p.seen (ts ++ t ∷ []); mine = m }) places
+    let w : Caller = caller_in p session share in
+    let places : (p.mine ++ places_of_all ts) ++ places_of t.outcome ≡ p.mine ++ places_of_all (ts ++ t ∷ []) =
+    append_assoc p.mine (places_of_all ts) (places_of t.outcome) ∙ ap (λ (xs : List ℕ). p.mine ++ xs) (sym (flat_more (λ (u : AnsweredLine). places_of u.outcome) ts t)) in
+    ap (λ (x : List Noted). record p { seen = x; mine = (p.mine ++ places_of_all ts) ++ places_of t.outcome }) (sym (seen_more w p.seen ts t))
+    ∙ ap (λ (m : List ℕ). record p { seen = seen_after_all w p.seen (ts ++ t ∷ []); mine = m }) places
 
 -- the lines with one more
 unfoldable pub going_more : {C : Type 0} (session : ℕ) (share : List ℕ) (ticks : C → ℕ → C → Type 0) (s0 s1 s2 : Option (List ℕ)) (p0 p1 p2 : PassView) (c0 c1 c2 : C) (t1 t2 : Tally) (k1 k2 : ℕ) (line : List ℕ) (answer : LineAnswer)
-    → (g : Going session share ticks s0 s1 p0 p1 c0 c1 t1 k1) → IsOneLine line → length line ≤ line_limit → Consumes s1 s2 (ended line) → k2 ≡ k1 + length line + 1
+    → (g : Going session share ticks s0 s1 p0 p1 c0 c1 t1 k1) → IsOneLine line → length line ≤ line_limit → Consumes s1 s2 (with_line_feed line) → k2 ≡ k1 + length line + 1
     → IsAnswered session share ticks line (after_turns session share p0 g.turns) p2 c1 c2 t1 t2 answer → Going session share ticks s0 s2 p0 p2 c0 c2 t2 k2
 going_more {C} session share ticks s0 s1 s2 p0 p1 p2 c0 c1 c2 t1 t2 k1 k2 line answer g one short taken count a =
-    let w : Speaker = speaker p0 session share in
-    let t : Turn = record { line = line; outcome = a.outcome } in
-    let lines : lines_of (g.turns ++ t ∷ []) ≡ lines_of g.turns ++ ended line = flat_more (λ (u : Turn). ended u.line) g.turns t in
-    let moments : moments_told (g.turns ++ t ∷ []) ≡ moments_told g.turns ++ moments_of a.outcome = flat_more (λ (u : Turn). moments_of u.outcome) g.turns t in
+    let w : Caller = caller_in p0 session share in
+    let t : AnsweredLine = record { line = line; outcome = a.outcome } in
+    let lines : line_bytes (g.turns ++ t ∷ []) ≡ line_bytes g.turns ++ with_line_feed line = flat_more (λ (u : AnsweredLine). with_line_feed u.line) g.turns t in
+    let moments : moments_of_all (g.turns ++ t ∷ []) ≡ moments_of_all g.turns ++ moments_of a.outcome = flat_more (λ (u : AnsweredLine). moments_of u.outcome) g.turns t in
     record {
       turns = g.turns ++ t ∷ [];
       may = may_more w p0.seen g.turns t g.may one short a.may;
-      bytes = subst (Consumes s0 s2) (sym lines) (consumes_more s0 s1 s2 (lines_of g.turns) (ended line) g.bytes taken);
-      taken_is = omega (arith, count, g.taken_is, ap length lines, length-append (lines_of g.turns) (ended line), length-append line (10 ∷ []));
+      bytes = subst (Consumes s0 s2) (sym lines) (consumes_more s0 s1 s2 (line_bytes g.turns) (with_line_feed line) g.bytes taken);
+      taken_is = omega (arith, count, g.taken_is, ap length lines, length-append (line_bytes g.turns) (with_line_feed line), length-append line (10 ∷ []));
       left = a.pass ∙ pass_more session share p0 g.turns t;
       tallied = a.tallied ∙ ap (λ (x : Tally). tally_after w x a.outcome) g.tallied ∙ sym (tally_more w no_tally g.turns t);
-      told = subst (λ (ms : List ℕ). Told ticks c0 ms c2) (sym moments) (told_append ticks c0 c1 c2 (moments_told g.turns) (moments_of a.outcome) g.told a.told);
+      told = subst (λ (ms : List ℕ). StepsThrough ticks c0 ms c2) (sym moments) (steps_append ticks c0 c1 c2 (moments_of_all g.turns) (moments_of a.outcome) g.told a.told);
     }
 
 -- ---- what was written
@@ -117,16 +117,16 @@ pub asked_line : {C : Type 0} (session : ℕ) (share : List ℕ) (ticks : C → 
     → call_of share line ≡ Some call → IsAsked session ticks call old new clock clock' tally tally' answer
     → IsAnswered session share ticks line old new clock clock' tally tally' answer
 asked_line {C} session share ticks line call old new clock clock' tally tally' answer is a =
-    let told : Told ticks clock (a.moment ∷ []) clock' = (clock', a.told, refl) in
+    let told : StepsThrough ticks clock (a.moment ∷ []) clock' = (clock', a.told, refl) in
     three a.cases
-    (λ (b : IsBooked session call old new a.moment tally tally' answer). record { outcome = booked call a.moment b.found; may = (is, b.others, b.room); pass = b.pass; told = told; tallied = b.tallied; answer_is = b.answer_is; printed = a.printed; held = a.held })
-    (λ (b : IsCrowded call old new tally tally' answer). record { outcome = crowded call a.moment b.found; may = (is, b.others, b.full); pass = no_more old new b.found b.pass; told = told; tallied = b.tallied; answer_is = b.answer_is; printed = a.printed; held = a.held })
-    (λ (b : IsStarved old new tally tally' answer). record { outcome = starved call a.moment b.found; may = (is, b.others); pass = no_more old new b.found b.pass; told = told; tallied = b.tallied; answer_is = b.answer_is; printed = a.printed; held = a.held })
+    (λ (b : IsAppended session call old new a.moment tally tally' answer). record { outcome = appended call a.moment b.found; may = (is, b.others, b.room); pass = b.pass; told = told; tallied = b.tallied; answer_is = b.answer_is; printed = a.printed; held = a.held })
+    (λ (b : IsHistoryFull call old new tally tally' answer). record { outcome = history_full call a.moment b.found; may = (is, b.others, b.full); pass = no_more old new b.found b.pass; told = told; tallied = b.tallied; answer_is = b.answer_is; printed = a.printed; held = a.held })
+    (λ (b : IsOutOfMemory old new tally tally' answer). record { outcome = no_memory call a.moment b.found; may = (is, b.others); pass = no_more old new b.found b.pass; told = told; tallied = b.tallied; answer_is = b.answer_is; printed = a.printed; held = a.held })
 
 -- an outcome counts at most one call
-pub asked_after : (w : Speaker) (t : Tally) (o : Outcome) → (tally_after w t o).asked ≤ t.asked + 1
-asked_after w t unbuilt = omega arith
-asked_after w t unread = omega arith
-asked_after w t (booked call moment found) = omega arith
-asked_after w t (crowded call moment found) = omega arith
-asked_after w t (starved call moment found) = omega arith
+pub asked_after : (w : Caller) (t : Tally) (o : LineOutcome) → (tally_after w t o).asked ≤ t.asked + 1
+asked_after w t not_a_call = omega arith
+asked_after w t not_parsed = omega arith
+asked_after w t (appended call moment found) = omega arith
+asked_after w t (history_full call moment found) = omega arith
+asked_after w t (no_memory call moment found) = omega arith

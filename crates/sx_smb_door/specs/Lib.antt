@@ -1,7 +1,7 @@
+pub mod Answer
 pub mod Asking
 pub mod Conversation
 pub mod Limits
+pub mod LineReaderView
 pub mod Lines
-pub mod Readers
-pub mod SessionLines
-pub mod Spelling
+pub mod Parse

@@ -1,34 +1,40 @@
-ghost use Rattle.std.specs.Prelude.{◌≡◌, true, OnOk, OnErr};
-ghost use Rattle.sx_base.specs.Causes.{HasCause};
-ghost use Rattle.sx_base.specs.Told.{Writes, WritesPrefix};
-ghost use Rattle.sx_smb_door.specs.SessionLines.{has_line, has_word, is_printed, lined, lined_reply, lined_said, lined_number, lined_open, lined_close, lined_bytes, lined_no_bytes, lined_some_bytes, lined_wrote, lined_refusal, lined_error, lined_error_number, lined_no_handle, lined_full, lined_long, lined_stop, made_word, word_of};
+//! The answers to a session's lines, and how they are printed.
+ghost use Rattle.std.specs.Prelude.{◌≡◌, true};
+ghost use Rattle.sx_base.specs.Sink.{Prints};
+ghost use Rattle.sx_smb_door.specs.Answer.{has_line, has_word, is_printed, answer_text, reply_text, smb_reply_text};
+ghost use Rattle.sx_smb_door.specs.Answer.{number_text, open_text, close_text, bytes_text, no_bytes_text};
+ghost use Rattle.sx_smb_door.specs.Answer.{some_bytes_text, write_text, refusal_text, error_text, error_number_text};
+ghost use Rattle.sx_smb_door.specs.Answer.{no_handle_text, full_text, long_text, stop_text, made_word, word_of};
 
-use crate::lines::LINE_LIMIT;
+use crate::limits::LINE_LIMIT;
 use sx_base::{Failed, Fragment, Sink, print};
-use sx_call::{Fate, HandleId, Refusal, Reply, SmbReply, Stop};
+use sx_stage_call::{Fate, HandleId, Refusal, Reply, SmbReply, Stop};
 
 /// What a session's line is answered.
 #[derive(Debug, Drop)]
 pub enum LineAnswer {
-    /// The call took this place of the history, counted from 1, and was answered so.
-    Core { place: u64, reply: Reply },
-    /// The line spells no call.
+    /// The call was appended to the history.
+    Core {
+        /// The place of its entry, counted from 1.
+        place: u64,
+        /// Its reply.
+        reply: Reply,
+    },
+    /// The line is not a call.
     NotBuilt,
     /// The line is over its limit.
     Long,
-    /// The call came to no place in the history.
+    /// The call was not appended to the history.
     Stop(Stop),
 }
 
-/// Writes a line's answer with a line feed behind it, or a prefix of these bytes where the sink fails. It takes no memory.
+/// Writes a line's answer with a line feed behind it, or a prefix of these bytes where the sink fails. It takes no
+/// memory.
 ///
 /// The words and messages are this profile's own; a refusal's word is the name of its NT status without `STATUS_`.
 pub fn print_line<K: Sink>(sink: &mut K, answer: &LineAnswer) -> Result<(), Failed>
     requires { is_printed answer.now ≡ true }
-    ensures ok { OnOk result (Writes K.wrote sink.old sink.new (lined answer.now)) }
-    ensures err { OnErr result (WritesPrefix K.wrote sink.old sink.new (lined answer.now)) }
-    ensures cause { HasCause (K.write_count sink.old) (K.write_count sink.new) result }
-    ensures step { K.puts sink.old sink.new }
+    ensures { Prints K.wrote K.write_count K.puts sink.old sink.new (answer_text answer.now) result }
 {
     match answer {
         LineAnswer::Core { place, reply } => print_reply(sink, *place, reply),
@@ -39,10 +45,7 @@ pub fn print_line<K: Sink>(sink: &mut K, answer: &LineAnswer) -> Result<(), Fail
 }
 
 fn print_long<K: Sink>(sink: &mut K) -> Result<(), Failed>
-    ensures ok { OnOk result (Writes K.wrote sink.old sink.new lined_long) }
-    ensures err { OnErr result (WritesPrefix K.wrote sink.old sink.new lined_long) }
-    ensures cause { HasCause (K.write_count sink.old) (K.write_count sink.new) result }
-    ensures step { K.puts sink.old sink.new }
+    ensures { Prints K.wrote K.write_count K.puts sink.old sink.new long_text result }
 {
     print(
         sink,
@@ -55,10 +58,7 @@ fn print_long<K: Sink>(sink: &mut K) -> Result<(), Failed>
 }
 
 fn print_stop<K: Sink>(sink: &mut K, stop: &Stop) -> Result<(), Failed>
-    ensures ok { OnOk result (Writes K.wrote sink.old sink.new (lined_stop stop.now)) }
-    ensures err { OnErr result (WritesPrefix K.wrote sink.old sink.new (lined_stop stop.now)) }
-    ensures cause { HasCause (K.write_count sink.old) (K.write_count sink.new) result }
-    ensures step { K.puts sink.old sink.new }
+    ensures { Prints K.wrote K.write_count K.puts sink.old sink.new (stop_text stop.now) result }
 {
     match stop {
         Stop::NoMemory => print(sink, &[Fragment::Text(b"ERR NO_MEMORY\n")]),
@@ -71,10 +71,7 @@ fn print_stop<K: Sink>(sink: &mut K, stop: &Stop) -> Result<(), Failed>
 }
 
 fn print_full<K: Sink>(sink: &mut K, entries: u64, sessions: u64, limit: u64) -> Result<(), Failed>
-    ensures ok { OnOk result (Writes K.wrote sink.old sink.new (lined_full entries sessions limit)) }
-    ensures err { OnErr result (WritesPrefix K.wrote sink.old sink.new (lined_full entries sessions limit)) }
-    ensures cause { HasCause (K.write_count sink.old) (K.write_count sink.new) result }
-    ensures step { K.puts sink.old sink.new }
+    ensures { Prints K.wrote K.write_count K.puts sink.old sink.new (full_text entries sessions limit) result }
 {
     print(
         sink,
@@ -92,25 +89,19 @@ fn print_full<K: Sink>(sink: &mut K, entries: u64, sessions: u64, limit: u64) ->
 
 fn print_reply<K: Sink>(sink: &mut K, place: u64, reply: &Reply) -> Result<(), Failed>
     requires { has_line reply.now ≡ true }
-    ensures ok { OnOk result (Writes K.wrote sink.old sink.new (lined_reply place reply.now)) }
-    ensures err { OnErr result (WritesPrefix K.wrote sink.old sink.new (lined_reply place reply.now)) }
-    ensures cause { HasCause (K.write_count sink.old) (K.write_count sink.new) result }
-    ensures step { K.puts sink.old sink.new }
+    ensures { Prints K.wrote K.write_count K.puts sink.old sink.new (reply_text place reply.now) result }
 {
     match reply {
-        Reply::Smb(said) => print_said(sink, place, said),
+        Reply::Smb(reply) => print_smb_reply(sink, place, reply),
         Reply::Refused(refusal) => print_refusal(sink, place, refusal),
         Reply::Created => unreachable!(),
     }
 }
 
-fn print_said<K: Sink>(sink: &mut K, place: u64, said: &SmbReply) -> Result<(), Failed>
-    ensures ok { OnOk result (Writes K.wrote sink.old sink.new (lined_said place said.now)) }
-    ensures err { OnErr result (WritesPrefix K.wrote sink.old sink.new (lined_said place said.now)) }
-    ensures cause { HasCause (K.write_count sink.old) (K.write_count sink.new) result }
-    ensures step { K.puts sink.old sink.new }
+fn print_smb_reply<K: Sink>(sink: &mut K, place: u64, reply: &SmbReply) -> Result<(), Failed>
+    ensures { Prints K.wrote K.write_count K.puts sink.old sink.new (smb_reply_text place reply.now) result }
 {
-    match said {
+    match reply {
         SmbReply::Started { session } => {
             print_number(sink, place, b" start ".as_slice(), *session as u64)
         }
@@ -130,10 +121,7 @@ fn print_said<K: Sink>(sink: &mut K, place: u64, said: &SmbReply) -> Result<(), 
 }
 
 fn print_number<K: Sink>(sink: &mut K, place: u64, word: &[u8], number: u64) -> Result<(), Failed>
-    ensures ok { OnOk result (Writes K.wrote sink.old sink.new (lined_number place word.now number)) }
-    ensures err { OnErr result (WritesPrefix K.wrote sink.old sink.new (lined_number place word.now number)) }
-    ensures cause { HasCause (K.write_count sink.old) (K.write_count sink.new) result }
-    ensures step { K.puts sink.old sink.new }
+    ensures { Prints K.wrote K.write_count K.puts sink.old sink.new (number_text place word.now number) result }
 {
     print(
         sink,
@@ -161,10 +149,7 @@ fn print_open<K: Sink>(
     id: u64,
     length: u64,
 ) -> Result<(), Failed>
-    ensures ok { OnOk result (Writes K.wrote sink.old sink.new (lined_open place index made id length)) }
-    ensures err { OnErr result (WritesPrefix K.wrote sink.old sink.new (lined_open place index made id length)) }
-    ensures cause { HasCause (K.write_count sink.old) (K.write_count sink.new) result }
-    ensures step { K.puts sink.old sink.new }
+    ensures { Prints K.wrote K.write_count K.puts sink.old sink.new (open_text place index made id length) result }
 {
     let word = made_word(made);
     print(
@@ -184,10 +169,7 @@ fn print_open<K: Sink>(
 }
 
 fn print_close<K: Sink>(sink: &mut K, place: u64, fate: &Fate) -> Result<(), Failed>
-    ensures ok { OnOk result (Writes K.wrote sink.old sink.new (lined_close place fate.now)) }
-    ensures err { OnErr result (WritesPrefix K.wrote sink.old sink.new (lined_close place fate.now)) }
-    ensures cause { HasCause (K.write_count sink.old) (K.write_count sink.new) result }
-    ensures step { K.puts sink.old sink.new }
+    ensures { Prints K.wrote K.write_count K.puts sink.old sink.new (close_text place fate.now) result }
 {
     match fate {
         Fate::Kept => print(
@@ -202,10 +184,7 @@ fn print_close<K: Sink>(sink: &mut K, place: u64, fate: &Fate) -> Result<(), Fai
 }
 
 fn print_bytes<K: Sink>(sink: &mut K, place: u64, bytes: &[u8]) -> Result<(), Failed>
-    ensures ok { OnOk result (Writes K.wrote sink.old sink.new (lined_bytes place bytes.now)) }
-    ensures err { OnErr result (WritesPrefix K.wrote sink.old sink.new (lined_bytes place bytes.now)) }
-    ensures cause { HasCause (K.write_count sink.old) (K.write_count sink.new) result }
-    ensures step { K.puts sink.old sink.new }
+    ensures { Prints K.wrote K.write_count K.puts sink.old sink.new (bytes_text place bytes.now) result }
 {
     if bytes.is_empty() {
         print_no_bytes(sink, place)
@@ -215,10 +194,7 @@ fn print_bytes<K: Sink>(sink: &mut K, place: u64, bytes: &[u8]) -> Result<(), Fa
 }
 
 fn print_no_bytes<K: Sink>(sink: &mut K, place: u64) -> Result<(), Failed>
-    ensures ok { OnOk result (Writes K.wrote sink.old sink.new (lined_no_bytes place)) }
-    ensures err { OnErr result (WritesPrefix K.wrote sink.old sink.new (lined_no_bytes place)) }
-    ensures cause { HasCause (K.write_count sink.old) (K.write_count sink.new) result }
-    ensures step { K.puts sink.old sink.new }
+    ensures { Prints K.wrote K.write_count K.puts sink.old sink.new (no_bytes_text place) result }
 {
     print(
         sink,
@@ -231,10 +207,7 @@ fn print_no_bytes<K: Sink>(sink: &mut K, place: u64) -> Result<(), Failed>
 }
 
 fn print_some_bytes<K: Sink>(sink: &mut K, place: u64, bytes: &[u8]) -> Result<(), Failed>
-    ensures ok { OnOk result (Writes K.wrote sink.old sink.new (lined_some_bytes place bytes.now)) }
-    ensures err { OnErr result (WritesPrefix K.wrote sink.old sink.new (lined_some_bytes place bytes.now)) }
-    ensures cause { HasCause (K.write_count sink.old) (K.write_count sink.new) result }
-    ensures step { K.puts sink.old sink.new }
+    ensures { Prints K.wrote K.write_count K.puts sink.old sink.new (some_bytes_text place bytes.now) result }
 {
     print(
         sink,
@@ -251,10 +224,7 @@ fn print_some_bytes<K: Sink>(sink: &mut K, place: u64, bytes: &[u8]) -> Result<(
 }
 
 fn print_wrote<K: Sink>(sink: &mut K, place: u64, count: u32, length: u64) -> Result<(), Failed>
-    ensures ok { OnOk result (Writes K.wrote sink.old sink.new (lined_wrote place count length)) }
-    ensures err { OnErr result (WritesPrefix K.wrote sink.old sink.new (lined_wrote place count length)) }
-    ensures cause { HasCause (K.write_count sink.old) (K.write_count sink.new) result }
-    ensures step { K.puts sink.old sink.new }
+    ensures { Prints K.wrote K.write_count K.puts sink.old sink.new (write_text place count length) result }
 {
     print(
         sink,
@@ -272,10 +242,7 @@ fn print_wrote<K: Sink>(sink: &mut K, place: u64, count: u32, length: u64) -> Re
 
 fn print_refusal<K: Sink>(sink: &mut K, place: u64, refusal: &Refusal) -> Result<(), Failed>
     requires { has_word refusal.now ≡ true }
-    ensures ok { OnOk result (Writes K.wrote sink.old sink.new (lined_refusal place refusal.now)) }
-    ensures err { OnErr result (WritesPrefix K.wrote sink.old sink.new (lined_refusal place refusal.now)) }
-    ensures cause { HasCause (K.write_count sink.old) (K.write_count sink.new) result }
-    ensures step { K.puts sink.old sink.new }
+    ensures { Prints K.wrote K.write_count K.puts sink.old sink.new (refusal_text place refusal.now) result }
 {
     let word = word_of(refusal);
     match refusal {
@@ -309,17 +276,15 @@ fn word_of(refusal: &Refusal) -> &'static [u8]
     }
 }
 
-/// Writes `ERR WORD PLACE MESSAGE`, the word with a space behind it and the message from the space before it to its line feed.
+/// Writes `ERR WORD PLACE MESSAGE`, the word with a space behind it and the message from the space before it to its
+/// line feed.
 fn print_error<'a, K: Sink>(
     sink: &mut K,
     word: &'a [u8],
     place: u64,
     message: &'a [u8],
 ) -> Result<(), Failed>
-    ensures ok { OnOk result (Writes K.wrote sink.old sink.new (lined_error word.now place message.now)) }
-    ensures err { OnErr result (WritesPrefix K.wrote sink.old sink.new (lined_error word.now place message.now)) }
-    ensures cause { HasCause (K.write_count sink.old) (K.write_count sink.new) result }
-    ensures step { K.puts sink.old sink.new }
+    ensures { Prints K.wrote K.write_count K.puts sink.old sink.new (error_text word.now place message.now) result }
 {
     print(
         sink,
@@ -340,10 +305,8 @@ fn print_error_number<'a, K: Sink>(
     message: &'a [u8],
     number: u64,
 ) -> Result<(), Failed>
-    ensures ok { OnOk result (Writes K.wrote sink.old sink.new (lined_error_number word.now place message.now number)) }
-    ensures err { OnErr result (WritesPrefix K.wrote sink.old sink.new (lined_error_number word.now place message.now number)) }
-    ensures cause { HasCause (K.write_count sink.old) (K.write_count sink.new) result }
-    ensures step { K.puts sink.old sink.new }
+    ensures { Prints K.wrote K.write_count K.puts sink.old sink.new
+        (error_number_text word.now place message.now number) result }
 {
     print(
         sink,
@@ -364,10 +327,7 @@ fn print_no_handle<K: Sink>(
     place: u64,
     handle: &HandleId,
 ) -> Result<(), Failed>
-    ensures ok { OnOk result (Writes K.wrote sink.old sink.new (lined_no_handle word.now place handle.now)) }
-    ensures err { OnErr result (WritesPrefix K.wrote sink.old sink.new (lined_no_handle word.now place handle.now)) }
-    ensures cause { HasCause (K.write_count sink.old) (K.write_count sink.new) result }
-    ensures step { K.puts sink.old sink.new }
+    ensures { Prints K.wrote K.write_count K.puts sink.old sink.new (no_handle_text word.now place handle.now) result }
 {
     print(
         sink,

@@ -2,20 +2,16 @@
 #![tactic(auto)]
 
 mod answer;
+mod limits;
 mod lines;
 mod parse;
 mod session;
 mod tally;
 
 pub use answer::{LineAnswer, print_line};
-pub use lines::{LINE_LIMIT, LineReader, NextLine};
+pub use limits::{FILE_LIMIT, LINE_LIMIT, READ_LIMIT};
+pub use lines::{LineReader, NextLine};
 pub use parse::call_of_line;
 pub use session::serve_session;
+pub use sx_memory::NoMemory;
 pub use tally::Tally;
-
-#[cfg(test)]
-mod session_tests;
-#[cfg(test)]
-mod tests;
-#[cfg(test)]
-mod thread_tests;

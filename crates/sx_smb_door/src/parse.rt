@@ -1,23 +1,34 @@
-ghost use Rattle.std.specs.Prelude.{◌≡◌, ◌≤◌, ◌<◌, ◌==◌, ◌+◌, true, ℕ, List, Some, None, IfOk, MatchOption, length, map, slice_index, bytes_eq, option_map, IfSome, codes, if◌then◌else◌, nat_le, ◌&&◌};
+//! The calls that a session's lines spell.
+ghost use Rattle.std.specs.Prelude.{◌≡◌, ◌≤◌, ◌<◌, ◌==◌, ◌+◌, true, ℕ, List, Some, None, IfOk, MatchOption, length};
+ghost use Rattle.std.specs.Prelude.{map, slice_index, bytes_eq, option_map, IfSome, codes, if◌then◌else◌, nat_le};
+ghost use Rattle.std.specs.Prelude.{◌&&◌};
 ghost use Rattle.std.specs.List.{list_all, list_any, range_with_len, slice_split, count_by};
 ghost use Rattle.std.specs.Char.{is_ascii_digit, is_digit};
 ghost use Rattle.std.specs.Str.Parse.{digits_value};
 ghost use Rattle.percent_encoding.specs.Percent.{percent_decode};
-ghost use Rattle.sx_smb_door.specs.Spelling.{without_return, is_number, within, number_in, index_of, place_of, count_of, some_bytes, bytes_of, is_bad_escape, has_bad_escape, named_part, part_of, how_of, is_opening, opening, open_of, close_of, read_of, writing, write_of, transfer_of, spelled, call_of};
+ghost use Rattle.sx_smb_door.specs.Limits.{file_limit};
+ghost use Rattle.sx_smb_door.specs.Parse.{without_return, is_decimal_word, number_within, number_in, handle_index_of};
+ghost use Rattle.sx_smb_door.specs.Parse.{offset_of, byte_count_of, nonempty_bytes, hex_bytes_of, is_bad_escape};
+ghost use Rattle.sx_smb_door.specs.Parse.{has_bad_escape, named_part, part_of, how_of, is_open_line, open_call};
+ghost use Rattle.sx_smb_door.specs.Parse.{open_call_of, close_call_of, read_call_of, write_call, write_call_of};
+ghost use Rattle.sx_smb_door.specs.Parse.{transfer_call_of, call_of_words, call_of};
 
+use crate::limits::{FILE_LIMIT, READ_LIMIT};
 use hex::FromHexError;
 use percent_encoding::percent_decode;
 use std::alloc::{AllocError, Global};
-use sx_base::{Items, NoMemory};
-use sx_call::{Access, Call, How, Mode, Piece, Update};
+use sx_memory::NoMemory;
 use sx_names::{Part, Path, ShareName, Unnamed};
+use sx_stage_call::{Access, Call, HandleIndex, How, Mode, Piece, Update};
 
-/// The call that a line of a session with this share spells, if it spells one (this profile's grammar of session lines).
+/// The call that a line of a session with this share spells, if it spells one (this profile's grammar of session
+/// lines).
 ///
 /// These are `open SHARE PART rw rwd create|existing file` of the session's own share, PART percent-encoded (RFC 3986),
-/// `close K`, `read K AT COUNT` and `write K AT HEX`, with one space between words and at most one carriage return behind
-/// them. Numbers are decimal without leading zeros: K is 1 to 4,294,967,295, AT at most 65,536, COUNT 1 to 1,048,576. HEX is an
-/// even number of hexadecimal digits in either case, at least two, and a write ends at most at 65,536.
+/// `close K`, `read K AT COUNT` and `write K AT HEX`, with one space between words and at most one carriage return
+/// behind them. Numbers are decimal without leading zeros: K is 1 to 4,294,967,295, AT at most 65,536, COUNT 1 to
+/// 1,048,576. HEX is an even number of hexadecimal digits in either case, at least two, and a write ends at most at
+/// 65,536.
 pub fn call_of_line(alloc: Global, share: &ShareName, line: &[u8]) -> Result<Option<Call>, NoMemory>
     ensures { IfOk result (λ call. call ≡ call_of share.now line.now) }
 {
@@ -26,7 +37,7 @@ pub fn call_of_line(alloc: Global, share: &ShareName, line: &[u8]) -> Result<Opt
         return Ok(None);
     }
     let words = words_of(alloc, text)?;
-    spelled(alloc, share, &words)
+    call_of_words(alloc, share, &words)
 }
 
 fn without_return(line: &[u8]) -> &[u8]
@@ -50,103 +61,111 @@ fn words_of<'a>(alloc: Global, text: &'a [u8]) -> Result<Vec<&'a [u8]>, AllocErr
     text.split(|b| *b == b' ').collect(alloc)
 }
 
-fn spelled(alloc: Global, share: &ShareName, words: &[&[u8]]) -> Result<Option<Call>, NoMemory>
-    ensures { IfOk result (λ call. call ≡ spelled share.now (map (λ word. word.now) words.now)) }
+fn call_of_words(
+    alloc: Global,
+    share: &ShareName,
+    words: &[&[u8]],
+) -> Result<Option<Call>, NoMemory>
+    ensures { IfOk result (λ call. call ≡ call_of_words share.now (map (λ word. word.now) words.now)) }
 {
     match words.len() {
         2 => Ok(close_words(words[0], words[1])),
-        4 => transfer_of(alloc, words[0], words[1], words[2], words[3]),
-        7 => begun(alloc, share, words),
+        4 => transfer_call_of(alloc, words[0], words[1], words[2], words[3]),
+        7 => call_of_seven(alloc, share, words),
         _ => Ok(None),
     }
 }
 
 /// The call of seven words.
-fn begun(alloc: Global, share: &ShareName, words: &[&[u8]]) -> Result<Option<Call>, NoMemory>
+fn call_of_seven(
+    alloc: Global,
+    share: &ShareName,
+    words: &[&[u8]],
+) -> Result<Option<Call>, NoMemory>
     requires { length words.now ≡ 7 }
-    ensures { IfOk result (λ call. call ≡ spelled share.now (map (λ word. word.now) words.now)) }
+    ensures { IfOk result (λ call. call ≡ call_of_words share.now (map (λ word. word.now) words.now)) }
 {
-    if is_opening(share, words[0], words[1], words[3], words[4], words[6]) {
-        open_of(alloc, share, words[2], words[5])
+    if is_open_line(share, words[0], words[1], words[3], words[4], words[6]) {
+        open_call_of(alloc, share, words[2], words[5])
     } else {
         Ok(None)
     }
 }
 
 fn close_words(verb: &[u8], k: &[u8]) -> Option<Call>
-    ensures { result ≡ (if bytes_eq verb.now (codes "close") then close_of k.now else None) }
+    ensures { result ≡ (if bytes_eq verb.now (codes "close") then close_call_of k.now else None) }
 {
     if verb == b"close".as_slice() {
-        close_of(k)
+        close_call_of(k)
     } else {
         None
     }
 }
 
-fn close_of(k: &[u8]) -> Option<Call>
-    ensures { result ≡ close_of k.now }
+fn close_call_of(k: &[u8]) -> Option<Call>
+    ensures { result ≡ close_call_of k.now }
 {
-    match index_of(k) {
+    match handle_index_of(k) {
         Some(index) => Some(Call::SmbClose { index }),
         None => None,
     }
 }
 
-fn transfer_of(
+fn transfer_call_of(
     alloc: Global,
     verb: &[u8],
     k: &[u8],
     at: &[u8],
     last: &[u8],
 ) -> Result<Option<Call>, NoMemory>
-    ensures { IfOk result (λ call. call ≡ transfer_of verb.now k.now at.now last.now) }
+    ensures { IfOk result (λ call. call ≡ transfer_call_of verb.now k.now at.now last.now) }
 {
     if verb == b"read".as_slice() {
-        Ok(read_of(k, at, last))
+        Ok(read_call_of(k, at, last))
     } else if verb == b"write".as_slice() {
-        write_of(alloc, k, at, last)
+        write_call_of(alloc, k, at, last)
     } else {
         Ok(None)
     }
 }
 
-fn read_of(k: &[u8], at: &[u8], count: &[u8]) -> Option<Call>
-    ensures { result ≡ read_of k.now at.now count.now }
+fn read_call_of(k: &[u8], at: &[u8], count: &[u8]) -> Option<Call>
+    ensures { result ≡ read_call_of k.now at.now count.now }
 {
-    let Some(index) = index_of(k) else {
+    let Some(index) = handle_index_of(k) else {
         return None;
     };
-    let Some(at) = place_of(at) else {
+    let Some(at) = offset_of(at) else {
         return None;
     };
-    let Some(count) = count_of(count) else {
+    let Some(count) = byte_count_of(count) else {
         return None;
     };
     Some(Call::SmbRead { index, at, count })
 }
 
-fn write_of(alloc: Global, k: &[u8], at: &[u8], hex: &[u8]) -> Result<Option<Call>, NoMemory>
-    ensures { IfOk result (λ call. call ≡ write_of k.now at.now hex.now) }
+fn write_call_of(alloc: Global, k: &[u8], at: &[u8], hex: &[u8]) -> Result<Option<Call>, NoMemory>
+    ensures { IfOk result (λ call. call ≡ write_call_of k.now at.now hex.now) }
 {
-    let Some(index) = index_of(k) else {
+    let Some(index) = handle_index_of(k) else {
         return Ok(None);
     };
-    let Some(at) = place_of(at) else {
+    let Some(at) = offset_of(at) else {
         return Ok(None);
     };
-    let Some(bytes) = bytes_of(alloc, hex)? else {
+    let Some(bytes) = hex_bytes_of(alloc, hex)? else {
         return Ok(None);
     };
-    Ok(writing(index, at, bytes))
+    Ok(write_call(index, at, bytes))
 }
 
 /// A write of these bytes, where it ends within the limit.
-fn writing(index: u32, at: u64, bytes: Vec<u8>) -> Option<Call>
+fn write_call(index: HandleIndex, at: u64, bytes: Vec<u8>) -> Option<Call>
     requires some { 1 ≤ length bytes.items }
-    requires place { at ≤ 65536 }
-    ensures { result ≡ writing (Some index) (Some at) (Some bytes.items) }
+    requires place { at ≤ file_limit }
+    ensures { result ≡ write_call (Some index) (Some at) (Some bytes.items) }
 {
-    if at + bytes.len() as u64 <= 65_536 {
+    if at + bytes.len() as u64 <= FILE_LIMIT {
         let update = Update::of(at, Piece::of(bytes));
         Some(Call::SmbWrite { index, update })
     } else {
@@ -154,7 +173,7 @@ fn writing(index: u32, at: u64, bytes: Vec<u8>) -> Option<Call>
     }
 }
 
-fn is_opening(
+fn is_open_line(
     share: &ShareName,
     verb: &[u8],
     name: &[u8],
@@ -162,7 +181,7 @@ fn is_opening(
     mode: &[u8],
     kind: &[u8],
 ) -> bool
-    ensures { result ≡ is_opening share.now verb.now name.now access.now mode.now kind.now }
+    ensures { result ≡ is_open_line share.now verb.now name.now access.now mode.now kind.now }
 {
     verb == b"open".as_slice()
         && name == share.bytes()
@@ -171,13 +190,13 @@ fn is_opening(
         && kind == b"file".as_slice()
 }
 
-fn open_of(
+fn open_call_of(
     alloc: Global,
     share: &ShareName,
     part: &[u8],
     how: &[u8],
 ) -> Result<Option<Call>, NoMemory>
-    ensures { IfOk result (λ call. call ≡ open_of share.now part.now how.now) }
+    ensures { IfOk result (λ call. call ≡ open_call_of share.now part.now how.now) }
 {
     let Some(part) = part_of(alloc, part)? else {
         return Ok(None);
@@ -185,15 +204,15 @@ fn open_of(
     let Some(how) = how_of(how) else {
         return Ok(None);
     };
-    let call = opening(alloc, share, part, how)?;
+    let call = open_call(alloc, share, part, how)?;
     Ok(Some(call))
 }
 
-fn opening(alloc: Global, share: &ShareName, part: Part, how: How) -> Result<Call, NoMemory>
-    ensures { IfOk result (λ call. Some call ≡ opening share.now (Some part) (Some how)) }
+fn open_call(alloc: Global, share: &ShareName, part: Part, how: How) -> Result<Call, NoMemory>
+    ensures { IfOk result (λ call. Some call ≡ open_call share.now (Some part) (Some how)) }
 {
     let path = Path::of_part(alloc, part)?;
-    let share = share.copy(alloc)?;
+    let share = share.copy()?;
     Ok(Call::SmbOpen {
         share,
         path,
@@ -272,44 +291,44 @@ fn is_hex_at(word: &[u8], at: usize) -> bool
 }
 
 /// The bytes of an even number of hexadecimal digits, at least two.
-fn bytes_of(alloc: Global, word: &[u8]) -> Result<Option<Vec<u8>>, NoMemory>
-    ensures value { IfOk result (λ bytes. option_map (λ b. b.items) bytes ≡ bytes_of word.now) }
+fn hex_bytes_of(alloc: Global, word: &[u8]) -> Result<Option<Vec<u8>>, NoMemory>
+    ensures value { IfOk result (λ bytes. option_map (λ b. b.items) bytes ≡ hex_bytes_of word.now) }
     ensures some { IfOk result (λ bytes. IfSome bytes (λ b. 1 ≤ length b.items)) }
 {
     match hex::decode(alloc, word) {
-        Ok(bytes) => Ok(some_bytes(bytes)),
+        Ok(bytes) => Ok(nonempty_bytes(bytes)),
         Err(FromHexError::OutOfMemory) => Err(NoMemory),
         Err(_) => Ok(None),
     }
 }
 
-fn some_bytes(bytes: Vec<u8>) -> Option<Vec<u8>>
-    ensures value { option_map (λ b. b.items) result ≡ some_bytes bytes.items }
+fn nonempty_bytes(bytes: Vec<u8>) -> Option<Vec<u8>>
+    ensures value { option_map (λ b. b.items) result ≡ nonempty_bytes bytes.items }
     ensures some { IfSome result (λ b. 1 ≤ length b.items) }
 {
     if bytes.is_empty() { None } else { Some(bytes) }
 }
 
-fn index_of(word: &[u8]) -> Option<u32>
-    ensures { result ≡ index_of word.now }
+fn handle_index_of(word: &[u8]) -> Option<HandleIndex>
+    ensures { result ≡ handle_index_of word.now }
 {
     match number_in(1, 4_294_967_295, word) {
-        Some(index) => Some(index as u32),
+        Some(index) => Some(HandleIndex::of(index as u32)),
         None => None,
     }
 }
 
-fn place_of(word: &[u8]) -> Option<u64>
-    ensures value { result ≡ place_of word.now }
-    ensures within { IfSome result (λ at. at ≤ 65536) }
+fn offset_of(word: &[u8]) -> Option<u64>
+    ensures value { result ≡ offset_of word.now }
+    ensures within { IfSome result (λ at. at ≤ file_limit) }
 {
-    number_in(0, 65_536, word)
+    number_in(0, FILE_LIMIT, word)
 }
 
-fn count_of(word: &[u8]) -> Option<u32>
-    ensures { result ≡ count_of word.now }
+fn byte_count_of(word: &[u8]) -> Option<u32>
+    ensures { result ≡ byte_count_of word.now }
 {
-    match number_in(1, 1_048_576, word) {
+    match number_in(1, READ_LIMIT, word) {
         Some(count) => Some(count as u32),
         None => None,
     }
@@ -318,17 +337,17 @@ fn count_of(word: &[u8]) -> Option<u32>
 /// The number that a word is, if it is one between two limits.
 fn number_in(least: u64, most: u64, word: &[u8]) -> Option<u64>
     ensures value { result ≡ number_in least most word.now }
-    ensures within { IfSome result (λ n. n ≤ most) }
+    ensures within { IfSome result (λ n. (least ≤ n) × (n ≤ most)) }
 {
-    if !is_number(word) {
+    if !is_decimal_word(word) {
         return None;
     }
-    within(least, most, value_of(word))
+    number_within(least, most, value_of(word))
 }
 
-fn within(least: u64, most: u64, number: u64) -> Option<u64>
-    ensures value { result ≡ within least most number }
-    ensures within { IfSome result (λ n. n ≤ most) }
+fn number_within(least: u64, most: u64, number: u64) -> Option<u64>
+    ensures value { result ≡ number_within least most number }
+    ensures within { IfSome result (λ n. (least ≤ n) × (n ≤ most)) }
 {
     if least <= number && number <= most {
         Some(number)
@@ -337,8 +356,8 @@ fn within(least: u64, most: u64, number: u64) -> Option<u64>
     }
 }
 
-fn is_number(word: &[u8]) -> bool
-    ensures value { result ≡ is_number word.now }
+fn is_decimal_word(word: &[u8]) -> bool
+    ensures value { result ≡ is_decimal_word word.now }
     ensures digits { result ≡ true → list_all is_ascii_digit word.now ≡ true }
     ensures short { result ≡ true → length word.now ≤ 10 }
 {

@@ -1,9 +1,11 @@
+//! A session from its start to its end.
 ghost use Rattle.std.specs.Prelude.{◌≡◌, ◌+◌, ◌-◌, ◌<◌, ◌≤◌, ◌^◌, ◌⊎◌, [], true, ℕ, IfOk, length};
 ghost use Rattle.std.specs.Io.KnownBytes.{prepend_known};
-ghost use Rattle.sx_book.specs.Passes.{HoldsSession};
-ghost use Rattle.sx_smb_door.specs.Conversation.{Side, Served, Conversation, report_of, taken_at, end_of, unstarted as unstarted_report};
-ghost use Rattle.sx_smb_door.specs.Asking.{speaker, IsAsked, IsAnswered, noted_stop, no_tally};
-ghost use Rattle.sx_smb_door.specs.Spelling.{is_session_call};
+ghost use Rattle.sx_book.specs.Passes.{HoldsSession, KeepsSessions};
+ghost use Rattle.sx_smb_door.specs.Conversation.{SessionState, ServedLines, Conversation, report_of, taken_at, end_of};
+ghost use Rattle.sx_smb_door.specs.Conversation.{unstarted_report};
+ghost use Rattle.sx_smb_door.specs.Asking.{caller_in, IsAsked, IsAnswered, tally_with_stop, no_tally};
+ghost use Rattle.sx_smb_door.specs.Parse.{is_session_call};
 
 use crate::answer::{LineAnswer, print_line};
 use crate::lines::{LineReader, NextLine};
@@ -13,15 +15,15 @@ use std::alloc::Global;
 use std::sync::Wait;
 use sx_base::{Clock, Link};
 use sx_book::{ConnEnd, ConnReport, Full, Office, Pass, Session};
-use sx_call::{Call, Stop};
 use sx_names::ShareName;
+use sx_stage_call::{Call, Stop};
 
-/// Counts a call that came to no place.
+/// Counts a call that was not appended.
 fn note(tally: &mut Tally, stop: Stop)
-    ensures { tally.new ≡ noted_stop tally.old stop }
+    ensures { tally.new ≡ tally_with_stop tally.old stop }
 {
     match stop {
-        Stop::NoMemory => tally.starved = true,
+        Stop::NoMemory => tally.no_memory = true,
         Stop::HistoryFull {
             entries,
             sessions,
@@ -50,7 +52,9 @@ fn answer_call<R: Wait, C: Clock>(
     requires held { HoldsSession pass.old session.now }
     requires call { is_session_call call ≡ true }
     requires asked { tally.old.asked + 1 < 2 ^ 64 }
-    ensures { IsAsked session.now C.ticks call pass.old pass.new clock.old clock.new tally.old tally.new result }
+    ensures keeps { KeepsSessions pass.old pass.new }
+    ensures asked { IsAsked session.now C.ticks call pass.old pass.new clock.old clock.new
+        tally.old tally.new result }
 {
     let now = clock.now();
     tally.asked += 1;
@@ -81,11 +85,13 @@ fn answer_line<R: Wait, C: Clock>(
     requires own { pass.old.office ≡ office.now }
     requires held { HoldsSession pass.old session.now }
     requires asked { tally.old.asked + 1 < 2 ^ 64 }
-    ensures { IsAnswered session.now share.now C.ticks line.now pass.old pass.new clock.old clock.new tally.old tally.new result }
+    ensures keeps { KeepsSessions pass.old pass.new }
+    ensures answered { IsAnswered session.now share.now C.ticks line.now pass.old pass.new clock.old clock.new
+        tally.old tally.new result }
 {
     match call_of_line(alloc, share, line) {
         Err(_) => {
-            tally.starved = true;
+            tally.no_memory = true;
             LineAnswer::Stop(Stop::NoMemory)
         }
         Ok(None) => LineAnswer::NotBuilt,
@@ -110,10 +116,26 @@ fn serve_lines<R: Wait, L: Link, C: Clock>(
     requires held { HoldsSession pass.old session.now }
     requires reader { (reader.old.held ≡ []) × (reader.old.taken ≡ 0) }
     requires tally { tally.old ≡ no_tally }
-    ensures served { Served (speaker pass.old session.now share.now) reader.old.budget C.ticks (L.wrote link.old) (L.wrote link.new)
-        (record { left = L.left link.old; reads = L.read_count link.old; writes = L.write_count link.old; seen = pass.old.seen; mine = pass.old.mine; clock = clock.old })
-        (record { left = L.left link.new; reads = L.read_count link.new; writes = L.write_count link.new; seen = pass.new.seen; mine = pass.new.mine; clock = clock.new }) tally.new result reader.new.taken }
+    ensures served { ServedLines (caller_in pass.old session.now share.now) reader.old.budget C.ticks
+        (L.wrote link.old) (L.wrote link.new)
+        (record {
+          left = L.left link.old;
+          reads = L.read_count link.old;
+          writes = L.write_count link.old;
+          seen = pass.old.seen;
+          mine = pass.old.mine;
+          clock = clock.old;
+        })
+        (record {
+          left = L.left link.new;
+          reads = L.read_count link.new;
+          writes = L.write_count link.new;
+          seen = pass.new.seen;
+          mine = pass.new.mine;
+          clock = clock.new;
+        }) tally.new result reader.new.taken }
     ensures held { HoldsSession pass.new session.now }
+    ensures keeps { KeepsSessions pass.old pass.new }
     ensures pass { pass.new ≡ record pass.old { seen = pass.new.seen; mine = pass.new.mine } }
     ensures within { reader.new.taken + length reader.new.held ≤ reader.old.budget }
     ensures calls { L.calls link.old link.new }
@@ -167,12 +189,12 @@ fn report(end: ConnEnd, taken: u64, budget: u64, tally: Tally) -> ConnReport
         taken,
         asked: tally.asked,
         full: tally.full,
-        starved: tally.starved,
+        starved: tally.no_memory,
     }
 }
 
 /// The report of a session that was not started.
-fn unstarted(end: ConnEnd) -> ConnReport
+fn unstarted_report(end: ConnEnd) -> ConnReport
     ensures { result ≡ unstarted_report end }
 {
     ConnReport {
@@ -184,17 +206,17 @@ fn unstarted(end: ConnEnd) -> ConnReport
     }
 }
 
-/// The report of a session whose start came to no place.
+/// The report of a session whose start was not appended.
 fn refused(stop: Stop) -> ConnReport
     ensures { result ≡ unstarted_report (end_of stop) }
 {
     match stop {
-        Stop::NoMemory => unstarted(ConnEnd::NoMemory),
+        Stop::NoMemory => unstarted_report(ConnEnd::NoMemory),
         Stop::HistoryFull {
             entries,
             sessions,
             limit,
-        } => unstarted(ConnEnd::Full(Full {
+        } => unstarted_report(ConnEnd::Full(Full {
             entries,
             sessions,
             limit,
@@ -202,11 +224,13 @@ fn refused(stop: Stop) -> ConnReport
     }
 }
 
-/// Serves one session on a share through an office: starts it, answers its lines until no more are given or the budget of
-/// bytes is spent, and ends it. Others may ask the office meanwhile.
+/// Serves one session on a share through an office: starts it, answers its lines until no more are given or the
+/// budget of bytes is spent, and ends it. Others may ask the office meanwhile.
 ///
-/// Where the start is refused, no byte is read or written: the report's end is then `Full` or `NoMemory`. `WriteFault` and
-/// `ReadFault` come only where the link's counts of failures rose. Every session that was started is ended.
+/// Where the start is refused, no byte is read or written: the report's end is then `Full` or `NoMemory`.
+/// `WriteFault` and
+/// `ReadFault` come only where the link's counts of failures rose. Every session that was started is ended, and the
+/// pass goes on holding the sessions that it held.
 pub fn serve_session<R: Wait, L: Link, C: Clock>(
     alloc: Global,
     rt: &R,
@@ -218,10 +242,26 @@ pub fn serve_session<R: Wait, L: Link, C: Clock>(
     budget: u64,
 ) -> ConnReport
     requires own { pass.old.office ≡ office.now }
-    ensures conversation { Conversation pass.old.number pass.old.limit (L.peer_of link.old) budget share.now C.ticks (L.wrote link.old) (L.wrote link.new)
-        (record { left = L.left link.old; reads = L.read_count link.old; writes = L.write_count link.old; seen = pass.old.seen; mine = pass.old.mine; clock = clock.old })
-        (record { left = L.left link.new; reads = L.read_count link.new; writes = L.write_count link.new; seen = pass.new.seen; mine = pass.new.mine; clock = clock.new }) result }
+    ensures conversation { Conversation pass.old.number pass.old.limit (L.peer_of link.old) budget share.now C.ticks
+        (L.wrote link.old) (L.wrote link.new)
+        (record {
+          left = L.left link.old;
+          reads = L.read_count link.old;
+          writes = L.write_count link.old;
+          seen = pass.old.seen;
+          mine = pass.old.mine;
+          clock = clock.old;
+        })
+        (record {
+          left = L.left link.new;
+          reads = L.read_count link.new;
+          writes = L.write_count link.new;
+          seen = pass.new.seen;
+          mine = pass.new.mine;
+          clock = clock.new;
+        }) result }
     ensures pass { pass.new ≡ record pass.old { seen = pass.new.seen; mine = pass.new.mine } }
+    ensures held { KeepsSessions pass.old pass.new }
     ensures calls { L.calls link.old link.new }
 {
     let peer = link.peer();
@@ -234,7 +274,7 @@ pub fn serve_session<R: Wait, L: Link, C: Clock>(
     let mut tally = Tally {
         asked: 0,
         full: None,
-        starved: false,
+        no_memory: false,
     };
     let finish = serve_lines(
         alloc,

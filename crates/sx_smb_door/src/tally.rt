@@ -1,9 +1,14 @@
+//! What a session's report counts.
+
 use sx_book::Full;
 
-/// What a session's report counts: the calls asked, the last time that the history was full, and want of memory.
+/// The counts of a session so far.
 #[derive(Clone, Copy, Debug, PartialEq, Eq)]
 pub struct Tally {
+    /// How many calls were handed to the office.
     pub asked: u64,
+    /// The numbers of the last answer that the history was full.
     pub full: Option<Full>,
-    pub starved: bool,
+    /// Whether a line or call was answered with out of memory.
+    pub no_memory: bool,
 }

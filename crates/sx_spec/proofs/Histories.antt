@@ -1,177 +1,97 @@
--- One more entry in a history.
-use Rattle.std.proofs.Common.{ℕ, suc, ◌+◌, ◌-◌, ◌≤◌, ◌≡◌, Bool, true, false, cond, not, List, [], ◌∷◌, ◌++◌, length, Option, Some, None, refl, ap, sym, subst, arith, length-append}
-use Rattle.std.specs.List.{find, filter, slice_get}
-use Rattle.std.proofs.lemmas.Option.{same_Some}
-use Rattle.sx_base.specs.Moments.{greatest_moment}
-use Rattle.std.proofs.lemmas.List.Sums.{length-filter, count_by-le-length}
-use Rattle.sx_base.specs.Entries.{change}
-use Rattle.sx_call.specs.Limits.{Placed}
-use Rattle.sx_call.specs.declared.call.Call.{Call}
-use Rattle.sx_call.specs.declared.call.Call.TheVariants.{CreateShare, Start, End, SmbOpen, SmbClose, SmbRead, SmbWrite}
-use Rattle.sx_call.specs.declared.call.Entry.{Entry}
-use Rattle.sx_call.specs.declared.call.Noted.{Noted}
-use Rattle.sx_call.specs.declared.held.Live.{Live}
-use Rattle.sx_call.specs.declared.held.Open.{Open}
-use Rattle.sx_call.specs.declared.reply.Refusal.{Refusal}
-use Rattle.sx_guard.specs.declared.handle.Access.{Access}
-use Rattle.sx_guard.specs.declared.handle.Mode.{Mode}
-use Rattle.sx_tree.specs.declared.node.Found.{Found}
-use Rattle.sx_tree.specs.declared.node.Found.TheVariants.{Node, Missing, NoParent}
-use Rattle.sx_spec.specs.Account.{Account, empty, is_session, session_of, open_of, place_of}
-use Rattle.sx_spec.specs.FirstRefusal.{first}
-use Rattle.sx_spec.specs.Step.{step, outcome, after, replay, changed, grant, opens_in, opens_at, made_and_opened, last_part, writes_at}
-use Rattle.sx_spec.specs.History.{MayCome, IsHistory, IsHistoryFrom, is_refused, wants, is_in_session, is_of_caller, moment_after, last_moment}
+-- Laws on histories: one entry more, beginnings, and what is at a place.
+use Rattle.std.specs.Prelude.{◌≡◌, ◌≤◌, ℕ, ◌+◌, ◌-◌, List, [], ◌∷◌, ◌++◌, length, take, slice_get, Some, option_map}
+use Rattle.std.proofs.Common.{refl, ap, arith}
+use Rattle.sx_base.specs.Clock.{greatest_moment}
+use Rattle.sx_call.specs.declared.entries.Entry.{Entry}
+use Rattle.sx_call.specs.declared.entries.Noted.{Noted}
+use Rattle.sx_spec.specs.Account.{Account, empty}
+use Rattle.sx_spec.specs.History.{MayCome, IsHistory, IsHistoryFrom, is_refused, noted_at, wants, moment_after}
+use Rattle.sx_spec.specs.History.{last_moment}
+use Rattle.sx_spec.specs.Step.{step, after, replay, reply_at}
+use Rattle.sx_spec.proofs.Live.{step_room}
 
 -- the account after one entry more
-pub after_more : (a : Account) (ns : List Noted) (n : Noted) → after a (ns ++ n ∷ []) ≡ (step (after a ns) n.entry).0
+after_more : (a : Account) (ns : List Noted) (n : Noted) → after a (ns ++ n ∷ []) ≡ (step (after a ns) n.entry).0
 after_more a [] n = refl
 after_more a (m ∷ ns) n = after_more (step a m.entry).0 ns n
 
--- its moment is the last one then
-pub moment_more : (last : ℕ) (ns : List Noted) (n : Noted) → moment_after last (ns ++ n ∷ []) ≡ n.entry.at
+-- a history leaves the account that one entry more finds
+pub replay_more : (ns : List Noted) (n : Noted) → replay (ns ++ n ∷ []) ≡ (step (replay ns) n.entry).0
+replay_more ns n = after_more empty ns n
+
+moment_more : (last : ℕ) (ns : List Noted) (n : Noted) → moment_after last (ns ++ n ∷ []) ≡ n.entry.at
 moment_more last [] n = refl
 moment_more last (m ∷ ns) n = moment_more m.entry.at ns n
 
--- a history with one entry more that may come
-pub history_more : (a : Account) (last limit : ℕ) (ns : List Noted) (n : Noted) → IsHistoryFrom a last limit ns → MayCome (after a ns) (moment_after last ns) n.entry
-    → n.refused ≡ is_refused (step (after a ns) n.entry).1 → (step (after a ns) n.entry).0.came + length (step (after a ns) n.entry).0.sessions ≤ limit
+-- the moment of one entry more is the last one then
+pub last_more : (ns : List Noted) (n : Noted) → last_moment (ns ++ n ∷ []) ≡ n.entry.at
+last_more ns n = moment_more 0 ns n
+
+came_after : (a : Account) (ns : List Noted) → (after a ns).came ≡ a.came + length ns
+came_after a [] = omega arith
+came_after a (n ∷ ns) = omega (arith, came_after (step a n.entry).0 ns)
+
+-- each entry counts
+pub came_is : (ns : List Noted) → (replay ns).came ≡ length ns
+came_is ns = omega (arith, came_after empty ns)
+
+history_more : (a : Account) (last limit : ℕ) (ns : List Noted) (n : Noted) → IsHistoryFrom a last limit ns
+    → MayCome (after a ns) (moment_after last ns) n.entry
+    → n.refused ≡ is_refused (step (after a ns) n.entry).1
+    → (step (after a ns) n.entry).0.came + length (step (after a ns) n.entry).0.store.sessions ≤ limit
     → IsHistoryFrom a last limit (ns ++ n ∷ [])
 history_more a last limit [] n h may marked room = (may, marked, room, tt)
-history_more a last limit (m ∷ ns) n h may marked room = (h.0, h.1, h.2, history_more (step a m.entry).0 m.entry.at limit ns n h.3 may marked room)
+history_more a last limit (m ∷ ns) n h may marked room =
+    (h.0, h.1, h.2, history_more (step a m.entry).0 m.entry.at limit ns n h.3 may marked room)
 
--- the moment of the last entry is the last one
-pub moment_last : (last : ℕ) (ns : List Noted) (n : Noted) → slice_get ns (length ns - 1) ≡ Some n → moment_after last ns ≡ n.entry.at
-moment_last last [] n e = cc
-moment_last last (m ∷ []) n e = ap (λ (x : Noted). x.entry.at) (same_Some m n e)
-moment_last last (m ∷ k ∷ ns) n e =
-    let one : length (m ∷ k ∷ ns) - 1 ≡ suc (length (k ∷ ns) - 1) = omega arith in
-    moment_last m.entry.at (k ∷ ns) n (rw one at e)
+-- a legal history with one entry more that may come, as it is kept, for which the limit leaves its places
+pub legal_more : (limit : ℕ) (ns : List Noted) (e : Entry) → IsHistory limit ns
+    → MayCome (replay ns) (last_moment ns) e → length ns + wants (replay ns) e.call ≤ limit
+    → IsHistory limit (ns ++ noted_at (replay ns) e ∷ [])
+legal_more limit ns e legal may room =
+    history_more empty 0 limit ns (noted_at (replay ns) e) legal may refl (omega (arith, came_is ns, step_room (replay ns) (last_moment ns) e may))
 
--- no moment passes a clock's greatest
-pub moment_clock : (a : Account) (last limit : ℕ) (ns : List Noted) → last ≤ greatest_moment → IsHistoryFrom a last limit ns → moment_after last ns ≤ greatest_moment
-moment_clock a last limit [] le h = le
-moment_clock a last limit (m ∷ ns) le h = moment_clock (step a m.entry).0 m.entry.at limit ns h.0.clock h.3
+begins : (a : Account) (last limit : ℕ) (ns more : List Noted) → IsHistoryFrom a last limit (ns ++ more)
+    → IsHistoryFrom a last limit ns
+begins a last limit [] more h = tt
+begins a last limit (n ∷ ns) more h = (h.0, h.1, h.2, begins (step a n.entry).0 n.entry.at limit ns more h.3)
 
-made_came : (a : Account) (at s share parent : ℕ) (x : Access) (m : Mode) (name : Option (List ℕ)) → (made_and_opened a at s share parent x m name).came ≡ a.came
-made_came a at s share parent x m None = refl
-made_came a at s share parent x m (Some name) = refl
+-- a beginning of a legal history is legal
+pub legal_beginning : (limit : ℕ) (ns more : List Noted) → IsHistory limit (ns ++ more) → IsHistory limit ns
+legal_beginning limit ns more legal = begins empty 0 limit ns more legal
 
-opens_came : (a : Account) (at s : ℕ) (path : List (List ℕ)) (x : Access) (m : Mode) (n : ℕ) (f : Found) → (opens_at a at s path x m n f).came ≡ a.came
-opens_came a at s path x m n (Node id) = refl
-opens_came a at s path x m n (Missing parent) = made_came a at s n parent x m (last_part path)
-opens_came a at s path x m n (NoParent parts) = refl
+room_after : (a : Account) (last limit : ℕ) (ns : List Noted) → a.came + length a.store.sessions ≤ limit
+    → IsHistoryFrom a last limit ns → (after a ns).came + length (after a ns).store.sessions ≤ limit
+room_after a last limit [] room h = room
+room_after a last limit (n ∷ ns) room h = room_after (step a n.entry).0 n.entry.at limit ns h.2 h.3
 
-place_came : (a : Account) (at s : ℕ) (path : List (List ℕ)) (x : Access) (m : Mode) (p : Option (ℕ × Found)) → (opens_in a at s path x m p).came ≡ a.came
-place_came a at s path x m None = refl
-place_came a at s path x m (Some p) = opens_came a at s path x m p.0 p.1
+-- a legal history and the ends of its live sessions fit the limit
+pub legal_fits : (limit : ℕ) (ns : List Noted) → IsHistory limit ns
+    → length ns + length (replay ns).store.sessions ≤ limit
+legal_fits limit ns legal = omega (arith, came_is ns, room_after empty 0 limit ns (omega arith) legal)
 
-writes_came : (a : Account) (u : Placed) (o : Option Open) → (writes_at a u o).came ≡ a.came
-writes_came a u None = refl
-writes_came a u (Some o) = refl
+clock_after : (a : Account) (last limit : ℕ) (ns : List Noted) → last ≤ greatest_moment
+    → IsHistoryFrom a last limit ns → moment_after last ns ≤ greatest_moment
+clock_after a last limit [] le h = le
+clock_after a last limit (n ∷ ns) le h = clock_after (step a n.entry).0 n.entry.at limit ns h.0.clock h.3
 
-changed_came : (a : Account) (who s at : ℕ) (call : Call) → (changed a who s at call).came ≡ a.came
-changed_came a who s at (CreateShare share quota) = refl
-changed_came a who s at (Start peer) = refl
-changed_came a who s at End = refl
-changed_came a who s at (SmbOpen share path x m how) = place_came a at s path x m (place_of a share path)
-changed_came a who s at (SmbClose index) = refl
-changed_came a who s at (SmbRead index from count) = refl
-changed_came a who s at (SmbWrite index update) = writes_came a update (open_of a s index)
+-- no moment of a legal history passes a clock's greatest
+pub legal_clock : (limit : ℕ) (ns : List Noted) → IsHistory limit ns → last_moment ns ≤ greatest_moment
+legal_clock limit ns legal = clock_after empty 0 limit ns (omega arith) legal
 
-outcome_came : (a : Account) (who s at : ℕ) (call : Call) (r : Option Refusal) → (outcome a who s at call r).0.came ≡ a.came + 1
-outcome_came a who s at call None = ap (λ n. n + 1) (changed_came a who s at call)
-outcome_came a who s at call (Some refusal) = refl
+take_all : (ns : List Noted) (n : Noted) → take (length ns) (ns ++ n ∷ []) ≡ ns
+take_all [] n = refl
+take_all (m ∷ ns) n = ap (λ (xs : List Noted). m ∷ xs) (take_all ns n)
 
--- each entry counts one
-pub step_came : (a : Account) (e : Entry) → (step a e).0.came ≡ a.came + 1
-step_came a e = outcome_came a e.who e.session e.at e.call (first a e.session e.call)
+get_last : (ns : List Noted) (n : Noted) → slice_get (ns ++ n ∷ []) (length ns) ≡ Some n
+get_last [] n = refl
+get_last (m ∷ ns) n = get_last ns n
 
--- a change of sessions leaves their number
-pub length_change : (p : Live → Bool) (xs : List Live) → length (change p grant xs) ≡ length xs
-length_change p [] = refl
-length_change p (x ∷ xs) = elim (p x) as (λ b. length (cond b (grant x ∷ xs) (x ∷ change p grant xs)) ≡ length (x ∷ xs)) [ true ↦ refl | false ↦ omega (arith, length_change p xs) ]
+reply_by : (ns : List Noted) (n : Noted) (k : ℕ) → k ≡ length ns
+    → option_map (λ (m : Noted). (step (replay (take k (ns ++ n ∷ []))) m.entry).1) (slice_get (ns ++ n ∷ []) k) ≡ Some (step (replay ns) n.entry).1
+reply_by ns n k is = rw (is, take_all ns n, get_last ns n) refl
 
--- a filter that drops one that is there leaves fewer
-shorter : (p : Live → Bool) (xs : List Live) (l : Live) → find p xs ≡ Some l → length (filter (λ x. not (p x)) xs) + 1 ≤ length xs
-shorter p [] l h = cc
-shorter p (x ∷ xs) l h =
-    elim (p x) as (λ b. cond b (Some x) (find p xs) ≡ Some l → length (cond (not b) (x ∷ filter (λ x. not (p x)) xs) (filter (λ x. not (p x)) xs)) + 1 ≤ length (x ∷ xs)) [
-      | true ↦ λ g. omega (arith, length-filter (λ x. not (p x)) xs, count_by-le-length (λ x. not (p x)) xs)
-      | false ↦ λ g. omega (arith, shorter p xs l g)
-    ] h
-
-made_sessions : (a : Account) (at s share parent : ℕ) (x : Access) (m : Mode) (name : Option (List ℕ)) → length (made_and_opened a at s share parent x m name).sessions ≡ length a.sessions
-made_sessions a at s share parent x m None = refl
-made_sessions a at s share parent x m (Some name) = length_change (is_session s) a.sessions
-
-opens_sessions : (a : Account) (at s : ℕ) (path : List (List ℕ)) (x : Access) (m : Mode) (n : ℕ) (f : Found) → length (opens_at a at s path x m n f).sessions ≡ length a.sessions
-opens_sessions a at s path x m n (Node id) = length_change (is_session s) a.sessions
-opens_sessions a at s path x m n (Missing parent) = made_sessions a at s n parent x m (last_part path)
-opens_sessions a at s path x m n (NoParent parts) = refl
-
-place_sessions : (a : Account) (at s : ℕ) (path : List (List ℕ)) (x : Access) (m : Mode) (p : Option (ℕ × Found)) → length (opens_in a at s path x m p).sessions ≡ length a.sessions
-place_sessions a at s path x m None = refl
-place_sessions a at s path x m (Some p) = opens_sessions a at s path x m p.0 p.1
-
-writes_sessions : (a : Account) (u : Placed) (o : Option Open) → length (writes_at a u o).sessions ≡ length a.sessions
-writes_sessions a u None = refl
-writes_sessions a u (Some o) = refl
-
-ended_room : (who s : ℕ) (ls : List Live) (o : Option Live) → find (is_session s) ls ≡ o → is_of_caller who o ≡ true → length (filter (λ l. not (is_session s l)) ls) + 1 ≤ length ls
-ended_room who s ls None e h = cc
-ended_room who s ls (Some l) e h = shorter (is_session s) ls l e
-
-changed_room : (a : Account) (who s at : ℕ) (call : Call) → is_in_session a who s call ≡ true → length (changed a who s at call).sessions + 1 ≤ wants a call
-changed_room a who s at (CreateShare share quota) h = omega arith
-changed_room a who s at (Start peer) h = simp length-append (omega arith)
-changed_room a who s at End h = ended_room who s a.sessions (session_of a s) refl h
-changed_room a who s at (SmbOpen share path x m how) h = omega (arith, place_sessions a at s path x m (place_of a share path))
-changed_room a who s at (SmbClose index) h = omega arith
-changed_room a who s at (SmbRead index from count) h = omega arith
-changed_room a who s at (SmbWrite index update) h = omega (arith, writes_sessions a update (open_of a s index))
-
--- a call that is refused ends nothing
-refused_room : (a : Account) (s : ℕ) (call : Call) (r : Refusal) → first a s call ≡ Some r → length a.sessions + 1 ≤ wants a call
-refused_room a s (CreateShare share quota) r e = omega arith
-refused_room a s (Start peer) r e = omega arith
-refused_room a s End r e = cc
-refused_room a s (SmbOpen share path x m how) r e = omega arith
-refused_room a s (SmbClose index) r e = omega arith
-refused_room a s (SmbRead index from count) r e = omega arith
-refused_room a s (SmbWrite index update) r e = omega arith
-
-outcome_room : (a : Account) (who s at : ℕ) (call : Call) (r : Option Refusal) → first a s call ≡ r → is_in_session a who s call ≡ true → length (outcome a who s at call r).0.sessions + 1 ≤ wants a call
-outcome_room a who s at call None e h = changed_room a who s at call h
-outcome_room a who s at call (Some refusal) e h = refused_room a s call refusal e
-
--- what an entry leaves has its places, where the history had as many as it wants
-pub step_room : (a : Account) (last : ℕ) (e : Entry) → MayCome a last e → length (step a e).0.sessions + 1 ≤ wants a e.call
-step_room a last e may = outcome_room a e.who e.session e.at e.call (first a e.session e.call) refl may.session
-
--- what a book keeps, once one more entry has come
-pub record IsKept (new : Account) (limit : ℕ) (ns : List Noted) : Type 0 where
-  pub state : new ≡ replay ns
-  pub came : new.came ≡ length ns
-  pub room : length ns + length new.sessions ≤ limit
-  pub legal : IsHistory limit ns
-
-kept_at : (limit : ℕ) (ns : List Noted) (n : Noted) → (replay ns).came ≡ length ns → IsHistory limit ns → MayCome (replay ns) (last_moment ns) n.entry
-    → n.refused ≡ is_refused (step (replay ns) n.entry).1 → length ns + wants (replay ns) n.entry.call ≤ limit → IsKept (step (replay ns) n.entry).0 limit (ns ++ n ∷ [])
-kept_at limit ns n came legal may marked room =
-    let more : length (ns ++ n ∷ []) ≡ length ns + 1 = length-append ns (n ∷ []) in
-    let one : (step (replay ns) n.entry).0.came ≡ (replay ns).came + 1 = step_came (replay ns) n.entry in
-    let left : length (step (replay ns) n.entry).0.sessions + 1 ≤ wants (replay ns) n.entry.call = step_room (replay ns) (last_moment ns) n.entry may in
-    record {
-      state = sym (after_more empty ns n);
-      came = omega arith;
-      room = omega arith;
-      legal = history_more empty 0 limit ns n legal may marked (omega arith);
-    }
-
-pub kept_more : (state new : Account) (limit : ℕ) (ns : List Noted) (n : Noted) → state ≡ replay ns → state.came ≡ length ns → IsHistory limit ns → MayCome state (last_moment ns) n.entry
-    → new ≡ (step state n.entry).0 → n.refused ≡ is_refused (step state n.entry).1 → length ns + wants state n.entry.call ≤ limit → IsKept new limit (ns ++ n ∷ [])
-kept_more state new limit ns n is came legal may done marked room =
-    let P : Account → Type 0 = λ a. (a.came ≡ length ns) → MayCome a (last_moment ns) n.entry → new ≡ (step a n.entry).0 → n.refused ≡ is_refused (step a n.entry).1
-    → length ns + wants a n.entry.call ≤ limit → IsKept new limit (ns ++ n ∷ []) in
-    let Q : Account → Type 0 = λ a. IsKept a limit (ns ++ n ∷ []) in
-    subst P (sym is) (λ c m d k r. subst Q (sym d) (kept_at limit ns n c legal m k r)) came may done marked room
+-- the reply to the last entry is that of the step on what the entries before it leave
+pub reply_last : (ns : List Noted) (n : Noted)
+    → reply_at (ns ++ n ∷ []) (length ns + 1) ≡ Some (step (replay ns) n.entry).1
+reply_last ns n = reply_by ns n (length ns + 1 - 1) (omega arith)

@@ -1,5 +1,7 @@
 -- Lists of which all items have a fact, and what is found in a list that was filtered or changed.
-use Rattle.std.proofs.Common.{◌≡◌, true, false, Bool, cond, List, [], ◌∷◌, Option, Some, None, refl, rules, sym, ap, ◌∙◌, subst, option_map}
+use Rattle.std.proofs.Common.{◌≡◌, ℕ, true, false, Bool, cond, List, [], ◌∷◌, Option, Some, None, refl, rules, tests}
+use Rattle.std.proofs.Common.{sym, ap, ◌∙◌, subst, option_map, arith, length, suc, ◌<◌}
+use Rattle.std.specs.Prelude.{◌==◌, ◌||◌, ◌&&◌, ◌≤◌, get_or, nat_le, nat_lt}
 use Rattle.std.specs.List.{AllByRecursion, filter, find}
 use Rattle.std.proofs.lemmas.Option.{same_Some}
 use Rattle.sx_base.specs.Entries.{change}
@@ -13,17 +15,20 @@ pub none_some : {X : Type 0} (x : X) → None ≡ Some x → ⊥
 none_some x e = search rules
 
 -- a fact of all items that follows from another one
-pub all_map : {X : Type 0} (P Q : X → Type 0) → ((x : X) → P x → Q x) → (xs : List X) → AllByRecursion P xs → AllByRecursion Q xs
+pub all_map : {X : Type 0} (P Q : X → Type 0) → ((x : X) → P x → Q x) → (xs : List X) → AllByRecursion P xs
+    → AllByRecursion Q xs
 all_map P Q f [] h = tt
 all_map P Q f (x ∷ xs) h = (f x h.0, all_map P Q f xs h.1)
 
 -- a fact of all items that follows from two
-pub all_with : {X : Type 0} (P Q R : X → Type 0) → ((x : X) → P x → Q x → R x) → (xs : List X) → AllByRecursion P xs → AllByRecursion Q xs → AllByRecursion R xs
+pub all_with : {X : Type 0} (P Q R : X → Type 0) → ((x : X) → P x → Q x → R x) → (xs : List X) → AllByRecursion P xs
+    → AllByRecursion Q xs → AllByRecursion R xs
 all_with P Q R f [] p q = tt
 all_with P Q R f (x ∷ xs) p q = (f x p.0 q.0, all_with P Q R f xs p.1 q.1)
 
 -- a filter keeps a fact of all items
-pub all_filter : {X : Type 0} (P : X → Type 0) (p : X → Bool) (xs : List X) → AllByRecursion P xs → AllByRecursion P (filter p xs)
+pub all_filter : {X : Type 0} (P : X → Type 0) (p : X → Bool) (xs : List X) → AllByRecursion P xs
+    → AllByRecursion P (filter p xs)
 all_filter P p [] h = tt
 all_filter {X} P p (x ∷ xs) h =
     elim (p x) as (λ b. AllByRecursion P (cond b (x ∷ filter p xs) (filter p xs))) [
@@ -31,7 +36,9 @@ all_filter {X} P p (x ∷ xs) h =
       | false ↦ all_filter P p xs h.1
     ]
 
-pass_by : {X : Type 0} (p : X → Bool) (x : X) (xs : List X) (b : Bool) → p x ≡ b → AllByRecursion (λ y. p y ≡ true) (filter p xs) → AllByRecursion (λ y. p y ≡ true) (cond b (x ∷ filter p xs) (filter p xs))
+pass_by : {X : Type 0} (p : X → Bool) (x : X) (xs : List X) (b : Bool) → p x ≡ b
+    → AllByRecursion (λ y. p y ≡ true) (filter p xs)
+    → AllByRecursion (λ y. p y ≡ true) (cond b (x ∷ filter p xs) (filter p xs))
 pass_by p x xs true is rest = (is, rest)
 pass_by p x xs false is rest = rest
 
@@ -41,7 +48,8 @@ all_pass p [] = tt
 all_pass p (x ∷ xs) = pass_by p x xs (p x) refl (all_pass p xs)
 
 -- what is found in a list has a fact of all its items
-pub all_found : {X : Type 0} (P : X → Type 0) (p : X → Bool) (xs : List X) (y : X) → AllByRecursion P xs → find p xs ≡ Some y → P y
+pub all_found : {X : Type 0} (P : X → Type 0) (p : X → Bool) (xs : List X) (y : X) → AllByRecursion P xs
+    → find p xs ≡ Some y → P y
 all_found P p [] y h e = absurd (none_some y e)
 all_found {X} P p (x ∷ xs) y h e =
     elim (p x) as (λ b. cond b (Some x) (find p xs) ≡ Some y → P y) [
@@ -49,16 +57,30 @@ all_found {X} P p (x ∷ xs) y h e =
       | false ↦ λ e. all_found P p xs y h.1 e
     ] e
 
-passes_by : {X : Type 0} (p : X → Bool) (x y : X) (xs : List X) (b : Bool) → p x ≡ b → cond b (Some x) (find p xs) ≡ Some y → (find p xs ≡ Some y → p y ≡ true) → p y ≡ true
+passes_by : {X : Type 0} (p : X → Bool) (x y : X) (xs : List X) (b : Bool) → p x ≡ b
+    → cond b (Some x) (find p xs) ≡ Some y → (find p xs ≡ Some y → p y ≡ true) → p y ≡ true
 passes_by p x y xs true is e rest = subst (λ z. p z ≡ true) (same_Some _ _ e) is
 passes_by p x y xs false is e rest = rest e
+
+-- what is found stands at a place
+place_by : {X : Type 0} (x y : X) (xs : List X) (r : Option X) (b : Bool) → cond b (Some x) r ≡ Some y
+    → (r ≡ Some y → (i : ℕ) × (i < length xs) × (get_or xs i y ≡ y))
+    → (i : ℕ) × (i < length (x ∷ xs)) × (get_or (x ∷ xs) i y ≡ y)
+place_by x y xs r true e past = (0, omega arith, same_Some x y e)
+place_by x y xs r false e past = let (i, within, at) = past e in (suc i, omega (arith, within), at)
+
+pub found_place : {X : Type 0} (p : X → Bool) (xs : List X) (y : X) → find p xs ≡ Some y
+    → (i : ℕ) × (i < length xs) × (get_or xs i y ≡ y)
+found_place p [] y e = absurd (none_some y e)
+found_place p (x ∷ xs) y e = place_by x y xs (find p xs) (p x) e (found_place p xs y)
 
 -- what is found passes the test
 pub found_passes : {X : Type 0} (p : X → Bool) (xs : List X) (y : X) → find p xs ≡ Some y → p y ≡ true
 found_passes p [] y e = absurd (none_some y e)
 found_passes p (x ∷ xs) y e = passes_by p x y xs (p x) refl e (found_passes p xs y)
 
-filter_by : {X : Type 0} (p q : X → Bool) (x : X) (xs : List X) (b c : Bool) → p x ≡ b → (b ≡ true → c ≡ true) → find p (filter q xs) ≡ find p xs
+filter_by : {X : Type 0} (p q : X → Bool) (x : X) (xs : List X) (b c : Bool) → p x ≡ b → (b ≡ true → c ≡ true)
+    → find p (filter q xs) ≡ find p xs
     → find p (cond c (x ∷ filter q xs) (filter q xs)) ≡ cond b (Some x) (find p xs)
 filter_by {X} p q x xs true true is keeps rest = ap (λ b. cond b (Some x) (find p (filter q xs))) is
 filter_by p q x xs true false is keeps rest = absurd (true_false (sym (keeps refl)))
@@ -66,26 +88,78 @@ filter_by {X} p q x xs false true is keeps rest = ap (λ b. cond b (Some x) (fin
 filter_by p q x xs false false is keeps rest = rest
 
 -- a filter that keeps what passes a test loses nothing that the test finds
-pub find_filter : {X : Type 0} (p q : X → Bool) → ((x : X) → p x ≡ true → q x ≡ true) → (xs : List X) → find p (filter q xs) ≡ find p xs
+pub find_filter : {X : Type 0} (p q : X → Bool) → ((x : X) → p x ≡ true → q x ≡ true) → (xs : List X)
+    → find p (filter q xs) ≡ find p xs
 find_filter p q keeps [] = refl
 find_filter p q keeps (x ∷ xs) = filter_by p q x xs (p x) (q x) refl (keeps x) (find_filter p q keeps xs)
 
-change_by : {X : Type 0} (p : X → Bool) (f : X → X) (x : X) (xs : List X) (b : Bool) → p x ≡ b → p (f x) ≡ p x → find p (change p f xs) ≡ option_map f (find p xs)
+change_by : {X : Type 0} (p : X → Bool) (f : X → X) (x : X) (xs : List X) (b : Bool) → p x ≡ b → p (f x) ≡ p x
+    → find p (change p f xs) ≡ option_map f (find p xs)
     → find p (cond b (f x ∷ xs) (x ∷ change p f xs)) ≡ option_map f (cond b (Some x) (find p xs))
 change_by {X} p f x xs true is same rest = ap (λ b. cond b (Some (f x)) (find p xs)) (same ∙ is)
 change_by {X} p f x xs false is same rest = ap (λ b. cond b (Some x) (find p (change p f xs))) is ∙ rest
 
 -- the item that a test finds, after it was changed
-pub find_change : {X : Type 0} (p : X → Bool) (f : X → X) → ((x : X) → p (f x) ≡ p x) → (xs : List X) → find p (change p f xs) ≡ option_map f (find p xs)
+pub find_change : {X : Type 0} (p : X → Bool) (f : X → X) → ((x : X) → p (f x) ≡ p x) → (xs : List X)
+    → find p (change p f xs) ≡ option_map f (find p xs)
 find_change p f same [] = refl
 find_change p f same (x ∷ xs) = change_by p f x xs (p x) refl (same x) (find_change p f same xs)
 
-other_by : {X : Type 0} (p r : X → Bool) (f : X → X) (x : X) (xs : List X) (b : Bool) → (b ≡ true → r x ≡ false) → r (f x) ≡ r x → find r (change p f xs) ≡ find r xs
+other_by : {X : Type 0} (p r : X → Bool) (f : X → X) (x : X) (xs : List X) (b : Bool) → (b ≡ true → r x ≡ false)
+    → r (f x) ≡ r x → find r (change p f xs) ≡ find r xs
     → find r (cond b (f x ∷ xs) (x ∷ change p f xs)) ≡ cond (r x) (Some x) (find r xs)
-other_by {X} p r f x xs true off same rest = ap (λ b. cond b (Some (f x)) (find r xs)) (same ∙ off refl) ∙ sym (ap (λ b. cond b (Some x) (find r xs)) (off refl))
+other_by {X} p r f x xs true off same rest =
+    ap (λ b. cond b (Some (f x)) (find r xs)) (same ∙ off refl) ∙ sym (ap (λ b. cond b (Some x) (find r xs)) (off refl))
 other_by {X} p r f x xs false off same rest = ap (λ (o : Option X). cond (r x) (Some x) o) rest
 
 -- what another test finds stays, where an item that it does not find was changed
-pub find_other : {X : Type 0} (p r : X → Bool) (f : X → X) → ((x : X) → p x ≡ true → r x ≡ false) → ((x : X) → r (f x) ≡ r x) → (xs : List X) → find r (change p f xs) ≡ find r xs
+pub find_other : {X : Type 0} (p r : X → Bool) (f : X → X) → ((x : X) → p x ≡ true → r x ≡ false)
+    → ((x : X) → r (f x) ≡ r x) → (xs : List X) → find r (change p f xs) ≡ find r xs
 find_other p r f off same [] = refl
 find_other p r f off same (x ∷ xs) = other_by p r f x xs (p x) (off x) (same x) (find_other p r f off same xs)
+
+-- `Some` tells its values apart
+pub some_of : {X : Type 0} (x y : X) → Some x ≡ Some y → x ≡ y
+some_of x y e = same_Some x y e
+
+-- a number is the same as itself
+pub nat_same : (a b : ℕ) → a ≡ b → (a == b) ≡ true
+nat_same a b e = search rules
+
+-- neither of two tests holds where one of them doesn't
+pub or_left : (b c : Bool) → (b || c) ≡ false → b ≡ false
+or_left true c e = e
+or_left false c e = refl
+
+-- nor does the other
+pub or_right : (b c : Bool) → (b || c) ≡ false → c ≡ false
+or_right true c e = absurd (true_false e)
+or_right false c e = e
+
+-- what a test of numbers says
+pub nat_leq : (a b : ℕ) → nat_le a b ≡ true → a ≤ b
+nat_leq a b e = search (rules, tests)
+
+-- and what makes it hold
+pub nat_leq_true : (a b : ℕ) → a ≤ b → nat_le a b ≡ true
+nat_leq_true a b e = search (rules, tests)
+
+-- a number that isn't less
+pub nat_not_less : (a b : ℕ) → nat_lt a b ≡ false → b ≤ a
+nat_not_less a b e = search (rules, tests)
+
+-- both of two tests hold where their conjunction does
+pub both_left : (b c : Bool) → (b && c) ≡ true → b ≡ true
+both_left true c e = refl
+both_left false c e = e
+
+-- the other one, too
+pub both_right : (b c : Bool) → (b && c) ≡ true → c ≡ true
+both_right true c e = e
+both_right false c e = absurd (true_false (sym e))
+
+pub nat_less : (a b : ℕ) → nat_lt a b ≡ true → a < b
+nat_less a b e = search (rules, tests)
+
+pub nat_at_most : (a b : ℕ) → nat_le a b ≡ true → a ≤ b
+nat_at_most a b e = search (rules, tests)

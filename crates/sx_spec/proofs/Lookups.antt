@@ -1,39 +1,53 @@
 -- What a change of entries by number leaves at each number.
-use Rattle.std.proofs.Common.{◌≡◌, ◌≢◌, ℕ, Bool, cond, true, List, Option, Some, None, refl, sym, ap, ◌∙◌, ◌⊎◌, inl, inr, ⊎_elim, option_map, subst}
+use Rattle.std.proofs.Common.{◌≡◌, ◌≢◌, ℕ, Bool, cond, true, false, List, [], ◌∷◌, Option, Some, None, refl, sym, ap}
+use Rattle.std.proofs.Common.{◌∙◌, ◌⊎◌, inl, inr, ⊎_elim, option_map, subst}
 use Rattle.std.specs.Prelude.{IsSome}
 use Rattle.std.specs.Ordering.{nat_cmp, eq_by_cmp}
 use Rattle.std.specs.Cmp.{IsEquivalence}
 use Rattle.std.specs.BTreeMap.{is_at}
-use Rattle.std.specs.Map.{set_value, keys_of}
+use Rattle.std.specs.declared.cmp.Ordering.{Ordering}
+use Rattle.std.specs.declared.cmp.Ordering.TheVariants.{Less}
+use Rattle.std.specs.Cmp.Lexicographic.{slice_cmp}
+use Rattle.std.specs.List.{AllByRecursion}
+use Rattle.std.specs.List.Sorted.{IsStrictlySortedBy}
+use Rattle.std.specs.Map.{lookup, remove_entry, set_value, keys_of}
 use Rattle.std.proofs.lemmas.Bool.{cases_eq}
 use Rattle.std.proofs.lemmas.Option.{same_Some}
-use Rattle.std.proofs.lemmas.Cmp.{nat_cmp_total, eq_by_cmp_equiv}
-use Rattle.std.proofs.lemmas.Map.{lookup-set_value, keys-set_value}
-use Rattle.std.proofs.lemmas.Map.Lookups.{exact_unsigned}
+use Rattle.std.proofs.lemmas.Cmp.{nat_cmp_total, nat_list_cmp_total, eq_by_cmp_equiv}
+use Rattle.std.proofs.lemmas.Map.{lookup-set_value, lookup-remove_entry, keys-set_value}
+use Rattle.std.proofs.lemmas.Map.Keys.{IsDistinct-from_sorted}
+use Rattle.std.proofs.lemmas.Map.Lookups.{exact_unsigned, exact_bytes}
 use Rattle.std.proofs.lemmas.Map.Views.{tells_apart}
 use Rattle.sx_base.specs.Entries.{value_at, with_value, change_at}
-use Rattle.sx_spec.proofs.Inserts.{here, apart, numbers}
+use Rattle.sx_spec.proofs.Inserts.{here, apart, numbers, names}
 
-laws : IsEquivalence (eq_by_cmp nat_cmp)
+-- keys that are equal in the order of numbers
+pub laws : IsEquivalence (eq_by_cmp nat_cmp)
 laws = eq_by_cmp_equiv nat_cmp_total
 
-one : (n x y : ℕ) → is_at (nat_cmp n) x ≡ true → is_at (nat_cmp n) y ≡ eq_by_cmp nat_cmp x y
+-- a key that is at a number is equal to the keys that are
+pub one : (n x y : ℕ) → is_at (nat_cmp n) x ≡ true → is_at (nat_cmp n) y ≡ eq_by_cmp nat_cmp x y
 one n x y h = ap (λ (k : ℕ). is_at (nat_cmp k) y) (tells_apart exact_unsigned n x h)
 
 some_is : {X : Type 0} (o : Option X) (x : X) → o ≡ Some x → IsSome o
 some_is o x e = rw e refl
 
-set : {X : Type 0} (n : ℕ) (es : List (ℕ × X)) (x w : X) → value_at es n ≡ Some x → value_at (set_value (is_at (nat_cmp n)) es w) n ≡ Some w
-set {X} n es x w e = lookup-set_value laws (is_at (nat_cmp n)) (one n) n w es (some_is _ x e) ∙ ap (λ (b : Bool). cond b (Some w) (value_at es n)) (here numbers n)
+set : {X : Type 0} (n : ℕ) (es : List (ℕ × X)) (x w : X) → value_at es n ≡ Some x
+    → value_at (set_value (is_at (nat_cmp n)) es w) n ≡ Some w
+set {X} n es x w e =
+    lookup-set_value laws (is_at (nat_cmp n)) (one n) n w es (some_is _ x e) ∙ ap (λ (b : Bool). cond b (Some w) (value_at es n)) (here numbers n)
 
-set_other : {X : Type 0} (n q : ℕ) (es : List (ℕ × X)) (x w : X) → value_at es n ≡ Some x → q ≢ n → value_at (set_value (is_at (nat_cmp n)) es w) q ≡ value_at es q
-set_other {X} n q es x w e ne = lookup-set_value laws (is_at (nat_cmp n)) (one n) q w es (some_is _ x e) ∙ ap (λ (b : Bool). cond b (Some w) (value_at es q)) (apart numbers n q ne)
+set_other : {X : Type 0} (n q : ℕ) (es : List (ℕ × X)) (x w : X) → value_at es n ≡ Some x → q ≢ n
+    → value_at (set_value (is_at (nat_cmp n)) es w) q ≡ value_at es q
+set_other {X} n q es x w e ne =
+    lookup-set_value laws (is_at (nat_cmp n)) (one n) q w es (some_is _ x e) ∙ ap (λ (b : Bool). cond b (Some w) (value_at es q)) (apart numbers n q ne)
 
 -- what stands at a number, of what stood there
 abbrev pub Became : {X : Type 0} → ℕ → (X → X) → ℕ → X → X → Type 0
 Became n f q x y = ((q ≢ n) × (y ≡ x)) ⊎ ((q ≡ n) × (y ≡ f x))
 
-there_by : {X : Type 0} (n : ℕ) (f : X → X) (es : List (ℕ × X)) (o : Option X) → value_at es n ≡ o → (q : ℕ) (x : X) → value_at es q ≡ Some x → q ≢ n
+there_by : {X : Type 0} (n : ℕ) (f : X → X) (es : List (ℕ × X)) (o : Option X) → value_at es n ≡ o → (q : ℕ) (x : X)
+    → value_at es q ≡ Some x → q ≢ n
     → (y : X) × (value_at (with_value n es (option_map f o)) q ≡ Some y) × Became n f q x y
 there_by n f es None none q x e ne = (x, e, inl (ne, refl))
 there_by n f es (Some z) some q x e ne = (x, set_other n q es z (f z) some ne ∙ e, inl (ne, refl))
@@ -47,7 +61,8 @@ change_there {X} n f es q x e = ⊎_elim
     (λ ne. there_by n f es (value_at es n) refl q x e ne)
     (cases_eq q n)
 
-back_by : {X : Type 0} (n : ℕ) (f : X → X) (es : List (ℕ × X)) (o : Option X) → value_at es n ≡ o → (q : ℕ) (y : X) → value_at (with_value n es (option_map f o)) q ≡ Some y
+back_by : {X : Type 0} (n : ℕ) (f : X → X) (es : List (ℕ × X)) (o : Option X) → value_at es n ≡ o → (q : ℕ) (y : X)
+    → value_at (with_value n es (option_map f o)) q ≡ Some y
     → (x : X) × (value_at es q ≡ Some x)
 back_by n f es None none q y e = (y, e)
 back_by {X} n f es (Some x) some q y e = ⊎_elim
@@ -56,7 +71,8 @@ back_by {X} n f es (Some x) some q y e = ⊎_elim
     (cases_eq q n)
 
 -- what stands there stood there, and was changed at the number alone
-pub change_back : {X : Type 0} (n : ℕ) (f : X → X) (es : List (ℕ × X)) (q : ℕ) (y : X) → value_at (change_at n f es) q ≡ Some y
+pub change_back : {X : Type 0} (n : ℕ) (f : X → X) (es : List (ℕ × X)) (q : ℕ) (y : X)
+    → value_at (change_at n f es) q ≡ Some y
     → (x : X) × (value_at es q ≡ Some x) × Became n f q x y
 change_back {X} n f es q y e =
     let (x, at) = back_by n f es (value_at es n) refl q y e in
@@ -70,3 +86,62 @@ keys_by n es (Some x) = keys-set_value (is_at (nat_cmp n)) es x
 -- the numbers stay
 pub change_keys : {X : Type 0} (n : ℕ) (f : X → X) (es : List (ℕ × X)) → keys_of (change_at n f es) ≡ keys_of es
 change_keys n f es = keys_by n es (option_map f (value_at es n))
+
+-- One entry less.
+
+-- under another number stands what stood there
+pub removed_other : {X : Type 0} (n q : ℕ) (es : List (ℕ × X)) → IsStrictlySortedBy nat_cmp (keys_of es) → q ≢ n
+    → value_at (remove_entry (is_at (nat_cmp n)) es) q ≡ value_at es q
+removed_other {X} n q es sorted ne =
+    lookup-remove_entry laws (is_at (nat_cmp n)) (one n) q es (IsDistinct-from_sorted nat_cmp (keys_of es) sorted)
+    ∙ ap (λ (b : Bool). cond b None (value_at es q)) (apart numbers n q ne)
+
+-- under the number stands nothing
+pub removed_here : {X : Type 0} (n : ℕ) (es : List (ℕ × X)) → IsStrictlySortedBy nat_cmp (keys_of es)
+    → value_at (remove_entry (is_at (nat_cmp n)) es) n ≡ None
+removed_here {X} n es sorted =
+    lookup-remove_entry laws (is_at (nat_cmp n)) (one n) n es (IsDistinct-from_sorted nat_cmp (keys_of es) sorted)
+    ∙ ap (λ (b : Bool). cond b None (value_at es n)) (here numbers n)
+
+name_laws : IsEquivalence (eq_by_cmp (slice_cmp nat_cmp))
+name_laws = eq_by_cmp_equiv nat_list_cmp_total
+
+name_one : (n x y : List ℕ) → is_at (slice_cmp nat_cmp n) x ≡ true
+    → is_at (slice_cmp nat_cmp n) y ≡ eq_by_cmp (slice_cmp nat_cmp) x y
+name_one n x y h = ap (λ (k : List ℕ). is_at (slice_cmp nat_cmp k) y) (tells_apart exact_bytes n x h)
+
+-- under another name stands what stood there
+pub unnamed_other : {X : Type 0} (n q : List ℕ) (es : List (List ℕ × X))
+    → IsStrictlySortedBy (slice_cmp nat_cmp) (keys_of es) → q ≢ n
+    → lookup (is_at (slice_cmp nat_cmp q)) (remove_entry (is_at (slice_cmp nat_cmp n)) es) ≡ lookup (is_at (slice_cmp nat_cmp q)) es
+unnamed_other {X} n q es sorted ne =
+    lookup-remove_entry name_laws (is_at (slice_cmp nat_cmp n)) (name_one n) q es (IsDistinct-from_sorted (slice_cmp nat_cmp) (keys_of es) sorted)
+    ∙ ap (λ (b : Bool). cond b None (lookup (is_at (slice_cmp nat_cmp q)) es)) (apart names n q ne)
+
+-- under the name stands nothing
+pub unnamed_here : {X : Type 0} (n : List ℕ) (es : List (List ℕ × X))
+    → IsStrictlySortedBy (slice_cmp nat_cmp) (keys_of es)
+    → lookup (is_at (slice_cmp nat_cmp n)) (remove_entry (is_at (slice_cmp nat_cmp n)) es) ≡ None
+unnamed_here {X} n es sorted =
+    lookup-remove_entry name_laws (is_at (slice_cmp nat_cmp n)) (name_one n) n es (IsDistinct-from_sorted (slice_cmp nat_cmp) (keys_of es) sorted)
+    ∙ ap (λ (b : Bool). cond b None (lookup (is_at (slice_cmp nat_cmp n)) es)) (here names n)
+
+all_removed : {K X : Type 0} (P : K → Type 0) (test : K → Bool) (es : List (K × X)) → AllByRecursion P (keys_of es)
+    → AllByRecursion P (keys_of (remove_entry test es))
+all_removed P test [] h = tt
+all_removed P test (e ∷ es) h =
+    elim (test e.0) as (λ b. AllByRecursion P (keys_of (cond b es (e ∷ remove_entry test es)))) [
+      | true ↦ h.1
+      | false ↦ (h.0, all_removed P test es h.1)
+    ]
+
+-- the keys stay in order
+pub removed_sorted : {K X : Type 0} (R : K → K → Ordering) (test : K → Bool) (es : List (K × X))
+    → IsStrictlySortedBy R (keys_of es) → IsStrictlySortedBy R (keys_of (remove_entry test es))
+unfolding IsStrictlySortedBy
+removed_sorted R test [] h = tt
+removed_sorted R test (e ∷ es) h =
+    elim (test e.0) as (λ b. IsStrictlySortedBy R (keys_of (cond b es (e ∷ remove_entry test es)))) [
+      | true ↦ h.1
+      | false ↦ (all_removed (λ y. R e.0 y ≡ Less) test es h.0, removed_sorted R test es h.1)
+    ]

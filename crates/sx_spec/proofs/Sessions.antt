@@ -1,112 +1,122 @@
 -- The live sessions, after one more is started, one is ended and one is granted an open.
-use Rattle.std.proofs.Common.{◌≡◌, ◌≢◌, ℕ, ◌+◌, ◌≤◌, ◌<◌, true, false, Bool, cond, not, List, [], ◌∷◌, ◌++◌, Some, refl, rules, ap, ◌∙◌, subst, arith, ⊎_elim, option_map}
-use Rattle.std.specs.List.{AllByRecursion, filter, find}
+use Rattle.std.proofs.Common.{◌≡◌, ◌≢◌, ℕ, ◌+◌, ◌≤◌, ◌<◌, true, false, Bool, cond, not, List, [], ◌∷◌, ◌++◌, Some, refl}
+use Rattle.std.proofs.Common.{rules, ap, ◌∙◌, subst, arith, ⊎_elim, option_map}
+use Rattle.std.specs.Prelude.{All, AllPairs, filter, find}
 use Rattle.std.proofs.lemmas.Bool.{cases_eq}
+use Rattle.std.proofs.lemmas.List.Elements.{All-nil, All-cons, All-head, All-tail, All-weaker, All-filter, All-append}
+use Rattle.std.proofs.lemmas.List.Kept.{AllPairs-filter, AllPairs-cons}
 use Rattle.std.proofs.lemmas.List.Folds.{find-append}
 use Rattle.sx_base.specs.Entries.{change}
-use Rattle.sx_call.specs.declared.held.Live.{Live}
+use Rattle.sx_guard.proofs.Pairs.{AllPairs-head, AllPairs-tail, AllPairs-nil}
+use Rattle.sx_call.specs.declared.opens.Live.{Live}
 use Rattle.sx_spec.specs.Account.{is_session}
-use Rattle.sx_spec.specs.Step.{grant}
-use Rattle.sx_spec.specs.Whole.{IsLive, AreDifferent}
-use Rattle.sx_spec.proofs.Lists.{all_map, all_filter, find_filter, find_change, find_other}
-
--- the facts of the live sessions
-pub record AreSessions (started came : ℕ) (ls : List Live) : Type 0 where
-  pub live : AllByRecursion (IsLive started came) ls
-  pub different : AreDifferent ls
+use Rattle.sx_spec.specs.Changes.{grant}
+use Rattle.sx_spec.specs.Whole.{IsLive, AreSessions}
+use Rattle.sx_spec.proofs.Lists.{find_filter, find_change, find_other}
 
 -- each session that is found is still found, with no fewer opens granted
 pub record SessionsStay (ls ks : List Live) : Type 0 where
-  pub stays : (n : ℕ) (l : Live) → find (is_session n) ls ≡ Some l → (k : Live) × (find (is_session n) ks ≡ Some k) × (l.granted ≤ k.granted)
-
-live_later : (s c t d : ℕ) → s ≤ t → c ≤ d → (l : Live) → IsLive s c l → IsLive t d l
-live_later s c t d le me l w = record { first = w.first; started = omega (arith, w.started); granted = omega (arith, w.granted) }
-
--- greater bounds bound them too
-pub sessions_later : (s c t d : ℕ) (ls : List Live) → s ≤ t → c ≤ d → AreSessions s c ls → AreSessions t d ls
-sessions_later s c t d ls le me w = record { live = all_map (IsLive s c) (IsLive t d) (live_later s c t d le me) ls w.live; different = w.different }
+  pub stays : (n : ℕ) (l : Live) → find (is_session n) ls ≡ Some l
+      → (k : Live) × (find (is_session n) ks ≡ Some k) × (l.granted ≤ k.granted)
 
 -- they stay where nothing changes
 pub sessions_same : (ls : List Live) → SessionsStay ls ls
 sessions_same ls = record { stays = λ n l e. (l, e, omega arith) }
 
--- ---- one is started
-all_end : {X : Type 0} (P : X → Type 0) (xs : List X) (y : X) → AllByRecursion P xs → P y → AllByRecursion P (xs ++ y ∷ [])
-all_end P [] y h p = (p, tt)
-all_end P (x ∷ xs) y h p = (h.0, all_end P xs y h.1 p)
+live_later : (s c t d : ℕ) → s ≤ t → c ≤ d → (l : Live) → IsLive s c l → IsLive t d l
+live_later s c t d le me l w =
+    record { first = w.first; started = omega (arith, w.started, le); granted = omega (arith, w.granted, me) }
 
-different_end : (s c : ℕ) (ls : List Live) (k : Live) → s < k.session → AllByRecursion (IsLive s c) ls → AreDifferent ls → AreDifferent (ls ++ k ∷ [])
-different_end s c [] k lt w d = (tt, tt)
-different_end s c (l ∷ ls) k lt w d =
-    let low : l.session ≤ s = w.0.started in
-    (all_end (λ q. l.session < q.session) ls k d.0 (omega (arith, low)), different_end s c ls k lt w.1 d.1)
+-- after more entries they keep their facts
+pub sessions_later : (came started : ℕ) (ls : List Live) → AreSessions came started ls
+    → AreSessions (came + 1) started ls
+sessions_later came started ls w = record {
+  count = omega (arith, w.count);
+  each =
+      All-weaker (IsLive started came) (IsLive started (came + 1)) (live_later started came started (came + 1) (omega arith) (omega arith)) ls w.each;
+  different = w.different;
+}
+
+-- One is started.
+
+-- one more at the end, to which all others stand so
+pub AllPairs-end : {X : Type 0} (R : X → X → Type 0) (xs : List X) (y : X) → All (λ x. R x y) xs → AllPairs R xs → AllPairs R (xs ++ y ∷ [])
+AllPairs-end R [] y h p = AllPairs-cons R y [] (All-nil (R y)) (AllPairs-nil R)
+AllPairs-end R (x ∷ xs) y h p =
+    AllPairs-cons R x (xs ++ y ∷ [])
+    (All-append (R x) xs (y ∷ []) (AllPairs-head R x xs p) (All-cons (R x) y [] (All-head (λ z. R z y) x xs h) (All-nil (R x))))
+    (AllPairs-end R xs y (All-tail (λ z. R z y) x xs h) (AllPairs-tail R x xs p))
 
 -- with one more, of the next number, they keep their facts
-pub sessions_started : (s c : ℕ) (ls : List Live) (k : Live) → AreSessions s c ls → k.session ≡ s + 1 → k.granted ≡ 0 → AreSessions (s + 1) (c + 1) (ls ++ k ∷ [])
-sessions_started s c ls k w at none = record {
-  live = all_end (IsLive (s + 1) (c + 1)) ls k (all_map (IsLive s c) (IsLive (s + 1) (c + 1)) (live_later s c (s + 1) (c + 1) (omega arith) (omega arith)) ls w.live)
-      (record { first = omega arith; started = omega arith; granted = omega arith });
-  different = different_end s c ls k (omega arith) w.live w.different;
+pub sessions_started : (came started : ℕ) (ls : List Live) (k : Live) → AreSessions came started ls
+    → k.session ≡ started + 1 → k.granted ≡ 0 → AreSessions (came + 1) (started + 1) (ls ++ k ∷ [])
+sessions_started came started ls k w at none = record {
+  count = omega (arith, w.count);
+  each = All-append (IsLive (started + 1) (came + 1)) ls (k ∷ [])
+      (All-weaker (IsLive started came) (IsLive (started + 1) (came + 1)) (live_later started came (started + 1) (came + 1) (omega arith) (omega arith)) ls w.each)
+      (All-cons (IsLive (started + 1) (came + 1)) k [] (record { first = omega (arith, at); started = omega (arith, at); granted = omega (arith, none) }) (All-nil (IsLive (started + 1) (came + 1))));
+  different = AllPairs-end (λ a b. a.session < b.session) ls k
+      (All-weaker (IsLive started came) (λ l. l.session < k.session) (λ l h. omega (arith, h.started, at)) ls w.each) w.different;
 }
 
 -- and those before stay
 pub started_stay : (ls : List Live) (k : Live) → SessionsStay ls (ls ++ k ∷ [])
-started_stay ls k = record { stays = λ n l e. (l, (rw (find-append (is_session n) ls (k ∷ [])) (rw e refl)), omega arith) }
+started_stay ls k =
+    record { stays = λ n l e. (l, (rw (find-append (is_session n) ls (k ∷ [])) (rw e refl)), omega arith) }
 
--- ---- one is ended
-different_filter : (p : Live → Bool) (ls : List Live) → AreDifferent ls → AreDifferent (filter p ls)
-different_filter p [] d = tt
-different_filter p (l ∷ ls) d =
-    elim (p l) as (λ b. AreDifferent (cond b (l ∷ filter p ls) (filter p ls))) [
-      | true ↦ (all_filter (λ q. l.session < q.session) p ls d.0, different_filter p ls d.1)
-      | false ↦ different_filter p ls d.1
-    ]
+-- One is ended.
 
 -- those that a filter keeps keep their facts
-pub sessions_ended : (s c : ℕ) (p : Live → Bool) (ls : List Live) → AreSessions s c ls → AreSessions s c (filter p ls)
-sessions_ended s c p ls w = record { live = all_filter (IsLive s c) p ls w.live; different = different_filter p ls w.different }
+pub sessions_ended : (came started : ℕ) (p : Live → Bool) (ls : List Live) → AreSessions came started ls
+    → AreSessions came started (filter p ls)
+sessions_ended came started p ls w = record {
+  count = w.count;
+  each = All-filter p (IsLive started came) ls w.each;
+  different = AllPairs-filter (λ a b. a.session < b.session) p ls w.different;
+}
 
 other_session : (n m : ℕ) (l : Live) → n ≢ m → is_session n l ≡ true → not (is_session m l) ≡ true
 other_session n m l ne e = search rules
 
 -- the other sessions are found as before
-pub ended_finds : (n m : ℕ) (ls : List Live) → n ≢ m → find (is_session n) (filter (λ l. not (is_session m l)) ls) ≡ find (is_session n) ls
+pub ended_finds : (n m : ℕ) (ls : List Live) → n ≢ m
+    → find (is_session n) (filter (λ l. not (is_session m l)) ls) ≡ find (is_session n) ls
 ended_finds n m ls ne = find_filter (is_session n) (λ l. not (is_session m l)) (λ l e. other_session n m l ne e) ls
 
--- ---- one is granted an open
-live_granted : (s c : ℕ) (l : Live) → IsLive s c l → IsLive s (c + 1) (grant l)
-live_granted s c l w = record { first = w.first; started = w.started; granted = omega (arith, w.granted) }
+-- One is granted an open.
 
-all_change : {X : Type 0} (P : X → Type 0) (p : X → Bool) (f : X → X) (xs : List X) → ((x : X) → P x → P (f x)) → AllByRecursion P xs → AllByRecursion P (change p f xs)
-all_change P p f [] keeps h = tt
-all_change P p f (x ∷ xs) keeps h =
-    elim (p x) as (λ b. AllByRecursion P (cond b (f x ∷ xs) (x ∷ change p f xs))) [
-      | true ↦ (keeps x h.0, h.1)
-      | false ↦ (h.0, all_change P p f xs keeps h.1)
+-- a fact of all items, after the first that passes was changed
+pub All-change : {X : Type 0} (P Q : X → Type 0) (p : X → Bool) (f : X → X) (xs : List X) → ((x : X) → P x → Q (f x)) → ((x : X) → P x → Q x) → All P xs → All Q (change p f xs)
+All-change P Q p f [] there else h = All-nil Q
+All-change P Q p f (x ∷ xs) there else h =
+    elim (p x) as (λ b. All Q (cond b (f x ∷ xs) (x ∷ change p f xs))) [
+      | true ↦ All-cons Q (f x) xs (there x (All-head P x xs h)) (All-weaker P Q else xs (All-tail P x xs h))
+      | false ↦ All-cons Q x (change p f xs) (else x (All-head P x xs h)) (All-change P Q p f xs there else (All-tail P x xs h))
     ]
 
-all_granted : (s c : ℕ) (p : Live → Bool) (ls : List Live) → AllByRecursion (IsLive s c) ls → AllByRecursion (IsLive s (c + 1)) (change p grant ls)
-all_granted s c p [] h = tt
-all_granted s c p (l ∷ ls) h =
-    elim (p l) as (λ b. AllByRecursion (IsLive s (c + 1)) (cond b (grant l ∷ ls) (l ∷ change p grant ls))) [
-      | true ↦ (live_granted s c l h.0, all_map (IsLive s c) (IsLive s (c + 1)) (live_later s c s (c + 1) (omega arith) (omega arith)) ls h.1)
-      | false ↦ (live_later s c s (c + 1) (omega arith) (omega arith) l h.0, all_granted s c p ls h.1)
-    ]
-
-different_granted : (p : Live → Bool) (ls : List Live) → AreDifferent ls → AreDifferent (change p grant ls)
-different_granted p [] d = tt
-different_granted p (l ∷ ls) d =
-    elim (p l) as (λ b. AreDifferent (cond b (grant l ∷ ls) (l ∷ change p grant ls))) [
-      | true ↦ (d.0, d.1)
-      | false ↦ (all_change (λ q. l.session < q.session) p grant ls (λ q h. h) d.0, different_granted p ls d.1)
+-- a relation of all pairs that the change leaves
+pub AllPairs-change : {X : Type 0} (R : X → X → Type 0) (p : X → Bool) (f : X → X) (xs : List X) → ((x y : X) → R x y → R (f x) y) → ((x y : X) → R x y → R x (f y)) → AllPairs R xs → AllPairs R (change p f xs)
+AllPairs-change R p f [] left right h = AllPairs-nil R
+AllPairs-change R p f (x ∷ xs) left right h =
+    elim (p x) as (λ b. AllPairs R (cond b (f x ∷ xs) (x ∷ change p f xs))) [
+      | true ↦ AllPairs-cons R (f x) xs (All-weaker (R x) (R (f x)) (λ y r. left x y r) xs (AllPairs-head R x xs h)) (AllPairs-tail R x xs h)
+      | false ↦ AllPairs-cons R x (change p f xs) (All-change (R x) (R x) p f xs (λ y r. right x y r) (λ y r. r) (AllPairs-head R x xs h)) (AllPairs-change R p f xs left right (AllPairs-tail R x xs h))
     ]
 
 -- with one more open granted they keep their facts
-pub sessions_granted : (s c : ℕ) (p : Live → Bool) (ls : List Live) → AreSessions s c ls → AreSessions s (c + 1) (change p grant ls)
-sessions_granted s c p ls w = record { live = all_granted s c p ls w.live; different = different_granted p ls w.different }
+pub sessions_granted : (came started : ℕ) (p : Live → Bool) (ls : List Live) → AreSessions came started ls
+    → AreSessions (came + 1) started (change p grant ls)
+sessions_granted came started p ls w = record {
+  count = omega (arith, w.count);
+  each = All-change (IsLive started came) (IsLive started (came + 1)) p grant ls
+      (λ l h. record { first = h.first; started = h.started; granted = omega (arith, h.granted) })
+      (live_later started came started (came + 1) (omega arith) (omega arith)) w.each;
+  different = AllPairs-change (λ a b. a.session < b.session) p grant ls (λ a b h. h) (λ a b h. h) w.different;
+}
 
 -- the session itself is found with one more open
-pub granted_finds : (n : ℕ) (ls : List Live) (l : Live) → find (is_session n) ls ≡ Some l → find (is_session n) (change (is_session n) grant ls) ≡ Some (grant l)
+pub granted_finds : (n : ℕ) (ls : List Live) (l : Live) → find (is_session n) ls ≡ Some l
+    → find (is_session n) (change (is_session n) grant ls) ≡ Some (grant l)
 granted_finds n ls l e = find_change (is_session n) grant (λ _. refl) ls ∙ ap (option_map grant) e
 
 another : (n m : ℕ) (l : Live) → n ≢ m → is_session m l ≡ true → is_session n l ≡ false

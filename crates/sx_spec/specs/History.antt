@@ -1,67 +1,61 @@
 -- Which histories there are.
 use Rattle.std.specs.Prelude.{ℕ, ◌+◌, ◌≤◌, ◌==◌, ◌≡◌, Bool, true, false, List, [], ◌∷◌, length, Option, Some, None}
-use Rattle.sx_base.specs.Moments.{greatest_moment}
-use Rattle.sx_call.specs.declared.call.Call.{Call}
-use Rattle.sx_call.specs.declared.call.Call.TheVariants.{CreateShare, Start, End, SmbOpen, SmbClose, SmbRead, SmbWrite}
-use Rattle.sx_call.specs.declared.call.Entry.{Entry}
-use Rattle.sx_call.specs.declared.call.Noted.{Noted}
-use Rattle.sx_call.specs.declared.held.Live.{Live}
-use Rattle.sx_call.specs.declared.reply.Reply.{Reply}
-use Rattle.sx_call.specs.declared.reply.Reply.TheVariants.{Created, Smb, Refused}
-use Rattle.sx_spec.specs.Account.{Account, empty, session_of}
+use Rattle.sx_base.specs.Clock.{greatest_moment}
+use Rattle.sx_call.specs.declared.calls.Call.{Call}
+use Rattle.sx_call.specs.declared.entries.Entry.{Entry}
+use Rattle.sx_call.specs.declared.entries.Noted.{Noted}
+use Rattle.sx_call.specs.declared.opens.Live.{Live}
+use Rattle.sx_call.specs.declared.replies.Reply.{Reply}
+use Rattle.sx_call.specs.declared.replies.Reply.TheVariants.{Refused}
+use Rattle.sx_call.specs.Calls.{door_of}
+use Rattle.sx_call.specs.declared.doors.Door.{Door}
+use Rattle.sx_call.specs.declared.doors.Door.TheVariants.{Rest, Starts, Ends, InSession}
+use Rattle.sx_spec.specs.Account.{Store, Account, empty, session_of}
 use Rattle.sx_spec.specs.Step.{step}
-
--- the entries, and how many there may be
-pub record History : Type 0 where
-  pub entries : List Noted
-  pub limit : ℕ
 
 -- whether a session is live and was started by this caller
 abbrev pub is_of_caller : ℕ → Option Live → Bool
 is_of_caller who None = false
 is_of_caller who (Some l) = l.who == who
 
--- a call of REST and Start stand in no session, each other call in a live one of the same caller
-abbrev pub is_in_session : Account → ℕ → ℕ → Call → Bool
-is_in_session a who session (CreateShare share quota) = session == 0
-is_in_session a who session (Start peer) = session == 0
-is_in_session a who session End = is_of_caller who (session_of a session)
-is_in_session a who session (SmbOpen share path access mode how) = is_of_caller who (session_of a session)
-is_in_session a who session (SmbClose index) = is_of_caller who (session_of a session)
-is_in_session a who session (SmbRead index at count) = is_of_caller who (session_of a session)
-is_in_session a who session (SmbWrite index update) = is_of_caller who (session_of a session)
+-- a REST call and a start stand in no session, each other call in a live one of the same caller
+abbrev pub stands_in : Store → ℕ → ℕ → Door → Bool
+stands_in s who session Rest = session == 0
+stands_in s who session Starts = session == 0
+stands_in s who session Ends = is_of_caller who (session_of s session)
+stands_in s who session InSession = is_of_caller who (session_of s session)
 
--- a session's calls, Start and End draw no number
-abbrev pub draws_none : Call → Bool
-draws_none (CreateShare share quota) = false
-draws_none (Start peer) = true
-draws_none End = true
-draws_none (SmbOpen share path access mode how) = true
-draws_none (SmbClose index) = true
-draws_none (SmbRead index at count) = true
-draws_none (SmbWrite index update) = true
+-- only a REST call draws a random number
+abbrev pub draws : Door → Bool
+draws Rest = true
+draws Starts = false
+draws Ends = false
+draws InSession = false
 
--- the entry may come next, behind one of this moment
+-- The entry may come next, behind one of this moment: its moment isn't before that nor past a clock's greatest, it
+-- stands in its
+-- session, and has a random number only where one is drawn.
 pub record MayCome (a : Account) (last : ℕ) (e : Entry) : Type 0 where
   pub moment : last ≤ e.at
   pub clock : e.at ≤ greatest_moment
-  pub session : is_in_session a e.who e.session e.call ≡ true
-  pub fresh : draws_none e.call ≡ true → e.fresh ≡ 0
+  pub session : stands_in a.store e.who e.session (door_of e.call) ≡ true
+  pub fresh : draws (door_of e.call) ≡ false → e.fresh ≡ 0
 
--- how many places a history wants for a call and for the ends of the sessions that are live then
+-- how many places a call wants for itself and for the ends of the sessions that are live behind it
+abbrev pub places_wanted : ℕ → Door → ℕ
+places_wanted live Rest = live + 1
+places_wanted live Starts = live + 2
+places_wanted live Ends = live
+places_wanted live InSession = live + 1
+
+-- how many places a call wants in an account
 abbrev pub wants : Account → Call → ℕ
-wants a (Start peer) = length a.sessions + 2
-wants a End = length a.sessions
-wants a (CreateShare share quota) = length a.sessions + 1
-wants a (SmbOpen share path access mode how) = length a.sessions + 1
-wants a (SmbClose index) = length a.sessions + 1
-wants a (SmbRead index at count) = length a.sessions + 1
-wants a (SmbWrite index update) = length a.sessions + 1
+wants a call = places_wanted (length a.store.sessions) (door_of call)
 
+-- whether a reply is a refusal
 abbrev pub is_refused : Reply → Bool
-is_refused Created = false
-is_refused (Smb said) = false
-is_refused (Refused refusal) = true
+is_refused (Refused r) = true
+is_refused reply = false
 
 -- the entry as the history keeps it
 abbrev pub noted_at : Account → Entry → Noted
@@ -72,17 +66,18 @@ abbrev pub IsHistoryFrom : Account → ℕ → ℕ → List Noted → Type 0
 IsHistoryFrom a last limit [] = Unit {0}
 IsHistoryFrom a last limit (n ∷ ns) =
     MayCome a last n.entry × (n.refused ≡ is_refused (step a n.entry).1)
-    × ((step a n.entry).0.came + length (step a n.entry).0.sessions ≤ limit)
+    × ((step a n.entry).0.came + length (step a n.entry).0.store.sessions ≤ limit)
     × IsHistoryFrom (step a n.entry).0 n.entry.at limit ns
 
--- legal for a limit
+-- A LEGAL HISTORY for a limit of so many entries
 abbrev pub IsHistory : ℕ → List Noted → Type 0
 IsHistory limit ns = IsHistoryFrom empty 0 limit ns
 
--- the moment of the last entry, 0 before any
+-- the moment of the last of these entries, or the one before where there is none
 abbrev pub moment_after : ℕ → List Noted → ℕ
 moment_after last [] = last
 moment_after last (n ∷ ns) = moment_after n.entry.at ns
 
+-- the moment of a history's last entry, 0 before any
 abbrev pub last_moment : List Noted → ℕ
 last_moment ns = moment_after 0 ns

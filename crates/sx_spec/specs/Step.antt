@@ -1,180 +1,156 @@
 -- What an entry does to an account, and what it is answered.
-use Rattle.std.specs.Prelude.{ℕ, ◌+◌, ◌-◌, true, false, not, List, [], ◌∷◌, ◌++◌, length, filter, count_by, take, drop, slice_get, Option, Some, None}
-use Rattle.std.specs.Ordering.{nat_cmp}
-use Rattle.std.specs.BTreeMap.{insert_entry}
-use Rattle.sx_base.specs.Entries.{change, change_at}
-use Rattle.sx_guard.specs.declared.handle.Access.{Access}
-use Rattle.sx_guard.specs.declared.handle.Mode.{Mode}
-use Rattle.sx_call.specs.declared.call.Call.{Call}
-use Rattle.sx_call.specs.declared.call.Call.TheVariants.{CreateShare, Start, End, SmbOpen, SmbClose, SmbRead, SmbWrite}
-use Rattle.sx_call.specs.declared.call.Entry.{Entry}
-use Rattle.sx_call.specs.declared.call.Noted.{Noted}
-use Rattle.sx_call.specs.declared.held.Live.{Live}
-use Rattle.sx_call.specs.declared.held.Open.{Open}
-use Rattle.sx_call.specs.declared.reply.Fate.TheVariants.{Kept}
-use Rattle.sx_call.specs.declared.reply.Refusal.{Refusal}
-use Rattle.sx_call.specs.declared.reply.Reply.{Reply}
-use Rattle.sx_call.specs.declared.reply.Reply.TheVariants.{Created, Smb, Refused}
-use Rattle.sx_call.specs.declared.reply.SmbReply.TheVariants.{Started, Ended, Opened, Closed, Bytes, Wrote}
-use Rattle.sx_call.specs.Limits.{Placed}
-use Rattle.sx_tree.specs.declared.node.Found.{Found}
-use Rattle.sx_tree.specs.declared.node.Found.TheVariants as found
-use Rattle.sx_tree.specs.declared.node.Kind.TheVariants.{File}
-use Rattle.sx_tree.specs.declared.node.Node.{Node}
-use Rattle.sx_tree.specs.declared.share.Share.{Share}
-use Rattle.sx_tree.specs.Files.{bytes_of, length_of, written}
-use Rattle.sx_tree.specs.Nodes.{new_nodes, with_node, written_nodes}
-use Rattle.sx_spec.specs.Account.{Account, empty, is_session, session_of, has_handle, is_of_session, open_of, with_open, place_of, node_in}
-use Rattle.sx_spec.specs.FirstRefusal.{first}
+use Rattle.std.specs.Prelude.{ℕ, ◌+◌, ◌-◌, List, [], ◌∷◌, take, slice_get, Option, Some, None, option_map, Result}
+use Rattle.std.specs.Prelude.{Ok, Err}
+use Rattle.sx_guard.specs.Handle.{Handle}
+use Rattle.sx_call.specs.declared.calls.Call.{Call}
+use Rattle.sx_call.specs.declared.calls.Call.TheVariants.{ListShares, CreateShare, GetShareProperties}
+use Rattle.sx_call.specs.declared.calls.Call.TheVariants.{SetShareProperties, GetShareMetadata, SetShareMetadata}
+use Rattle.sx_call.specs.declared.calls.Call.TheVariants.{DeleteShare, DeleteSnapshot, SnapshotShare, LeaseShare}
+use Rattle.sx_call.specs.declared.calls.Call.TheVariants.{CreateDirectory, GetDirectoryProperties, GetDirectoryMetadata}
+use Rattle.sx_call.specs.declared.calls.Call.TheVariants.{SetDirectoryMetadata, DeleteDirectory, ListDirectory}
+use Rattle.sx_call.specs.declared.calls.Call.TheVariants.{CreateFile, GetFile, GetFileProperties, SetFileProperties}
+use Rattle.sx_call.specs.declared.calls.Call.TheVariants.{GetFileMetadata, SetFileMetadata, UpdateRange, ClearRange}
+use Rattle.sx_call.specs.declared.calls.Call.TheVariants.{ListRanges, DeleteFile, LeaseFile, ListHandles}
+use Rattle.sx_call.specs.declared.calls.Call.TheVariants.{ForceCloseHandles, Start, End, SmbOpen, SmbClose, SmbRead}
+use Rattle.sx_call.specs.declared.calls.Call.TheVariants.{SmbWrite, SmbResize, SmbLock, SmbUnlock, SmbStat, SmbList}
+use Rattle.sx_call.specs.declared.calls.Call.TheVariants.{SmbDispose}
+use Rattle.sx_call.specs.declared.entries.Entry.{Entry}
+use Rattle.sx_call.specs.declared.entries.Noted.{Noted}
+use Rattle.sx_call.specs.declared.refusals.Refusal.{Refusal}
+use Rattle.sx_call.specs.declared.replies.Reply.{Reply}
+use Rattle.sx_call.specs.declared.replies.Reply.TheVariants.{Refused}
+use Rattle.sx_call.specs.declared.shown.Stamp.{Stamp}
+use Rattle.sx_spec.specs.Facts.{new_file}
+use Rattle.sx_spec.specs.Account.{Store, Account, empty}
+use Rattle.sx_spec.specs.Needs.{access_needed}
+use Rattle.sx_spec.specs.Places.{share_at, vacancy, volume_at, node_place, directory_place, file_place, handle_place}
+use Rattle.sx_spec.specs.Places.{held_file, held_directory}
+use Rattle.sx_spec.specs.Checks.{first_check}
+use Rattle.sx_spec.specs.Changes.{Act}
+use Rattle.sx_spec.specs.ShareCalls.{list_shares, create_share, get_share_properties, get_share_metadata}
+use Rattle.sx_spec.specs.ShareCalls.{set_share_properties, set_share_metadata, delete_share, delete_snapshot}
+use Rattle.sx_spec.specs.ShareCalls.{snapshot_share, lease_share}
+use Rattle.sx_spec.specs.FileCalls.{create_directory, get_directory_properties, get_directory_metadata}
+use Rattle.sx_spec.specs.FileCalls.{set_directory_metadata, delete_directory, list_directory, create_file, get_file}
+use Rattle.sx_spec.specs.FileCalls.{get_file_properties, get_file_metadata, set_file_properties, set_file_metadata}
+use Rattle.sx_spec.specs.FileCalls.{update_range, clear_range, list_ranges, delete_file, lease_file, list_handles}
+use Rattle.sx_spec.specs.FileCalls.{force_close_handles}
+use Rattle.sx_spec.specs.SessionCalls.{start, end_session, smb_open, smb_close, smb_read, smb_write, smb_resize}
+use Rattle.sx_spec.specs.SessionCalls.{smb_lock, smb_unlock, smb_stat, smb_list, smb_dispose}
 
--- one more share, with a root of the next id
-abbrev pub with_share : Account → List ℕ → ℕ → Account
-with_share a name quota = record a {
-  next_id = a.next_id + 1;
-  made = a.made + 1;
-  shares = insert_entry nat_cmp a.shares (a.made + 1) (record { name = name; quota = quota; tree = new_nodes a.next_id });
-}
+-- what a call is at the place that was found for it; where none was found that is its refusal
+abbrev pub at_place : {P : Type 0} → Result P Refusal → (P → Act) → Result Act Refusal
+at_place (Ok p) act = Ok (act p)
+at_place (Err r) act = Err r
 
--- one more session, of the next number
-abbrev pub with_session : Account → ℕ → ℕ → Account
-with_session a who peer = record a {
-  started = a.started + 1;
-  sessions = a.sessions ++ record { session = a.started + 1; who = who; peer = peer; granted = 0 } ∷ [];
-}
+-- the handle of an index in the entry's session
+abbrev pub handle_in : Entry → ℕ → Handle
+handle_in e index = record { session = e.session; index = index }
 
--- without a session and its opens
-abbrev pub without_session : Account → ℕ → Account
-without_session a session = record a {
-  sessions = filter (λ l. not (is_session session l)) a.sessions;
-  opens = filter (λ o. not (is_of_session session o)) a.opens;
-}
+-- THE CALLS: where each of them acts, and what it is there. `now` is the stamp that the entry gives: its moment and its
+-- place.
+abbrev pub act_of : Store → Stamp → Entry → Call → Result Act Refusal
+act_of s now e (ListShares c) = Ok (list_shares s c.prefix c.marker c.max c.snapshots)
+act_of s now e (CreateShare c) = at_place (vacancy s c.share) (λ number. create_share s now c.share c.quota c.meta)
+act_of s now e (GetShareProperties c) = at_place (volume_at s c.share c.scope.snap) (get_share_properties s e.call)
+act_of s now e (SetShareProperties c) = at_place (volume_at s c.share None) (set_share_properties s now e.call c.quota)
+act_of s now e (GetShareMetadata c) = at_place (volume_at s c.share c.scope.snap) (get_share_metadata s e.call)
+act_of s now e (SetShareMetadata c) = at_place (volume_at s c.share None) (set_share_metadata s now e.call c.meta)
+act_of s now e (DeleteShare c) = at_place (share_at s c.share) (delete_share s e.call c.include)
+act_of s now e (DeleteSnapshot c) = at_place (volume_at s c.share (Some c.moment)) (delete_snapshot s c.moment)
+act_of s now e (SnapshotShare c) = at_place (share_at s c.share) (snapshot_share s now c.meta)
+act_of s now e (LeaseShare c) = at_place (volume_at s c.share None) (lease_share s c.action e.fresh)
+act_of s now e (CreateDirectory c) = create_directory s now c.at c.attributes c.created c.written c.meta
+act_of s now e (GetDirectoryProperties c) = at_place (directory_place s c.at c.snap) (get_directory_properties s)
+act_of s now e (GetDirectoryMetadata c) = at_place (directory_place s c.at c.snap) (get_directory_metadata s)
+act_of s now e (SetDirectoryMetadata c) = at_place (directory_place s c.at None) (set_directory_metadata s now c.meta)
+act_of s now e (DeleteDirectory c) = at_place (directory_place s c.at None) (delete_directory s e.call)
+act_of s now e (ListDirectory c) = at_place (directory_place s c.at c.snap) (list_directory s c.prefix c.marker c.max)
+act_of s now e (CreateFile c) =
+    create_file s now e.call c.at (new_file c.length c.content) c.attributes c.created c.written c.meta
+act_of s now e (GetFile c) = at_place (file_place s c.at c.scope.snap) (get_file s e.call c.span)
+act_of s now e (GetFileProperties c) = at_place (file_place s c.at c.scope.snap) (get_file_properties s e.call)
+act_of s now e (SetFileProperties c) =
+    at_place (file_place s c.at None)
+    (set_file_properties s now e.call c.length c.content c.attributes c.created c.written)
+act_of s now e (GetFileMetadata c) = at_place (file_place s c.at c.scope.snap) (get_file_metadata s e.call)
+act_of s now e (SetFileMetadata c) = at_place (file_place s c.at None) (set_file_metadata s now e.call c.meta)
+act_of s now e (UpdateRange c) =
+    at_place (file_place s c.at None) (update_range s now e.call c.update.from c.update.piece)
+act_of s now e (ClearRange c) = at_place (file_place s c.at None) (clear_range s now e.call c.range.from c.range.end)
+act_of s now e (ListRanges c) = at_place (file_place s c.at c.scope.snap) (list_ranges s e.call c.span)
+act_of s now e (DeleteFile c) = at_place (file_place s c.at None) (delete_file s e.call)
+act_of s now e (LeaseFile c) = at_place (file_place s c.at None) (lease_file s c.action e.fresh)
+act_of s now e (ListHandles c) = at_place (node_place s c.at None) (list_handles s c.marker c.max c.recursive)
+act_of s now e (ForceCloseHandles c) = at_place (node_place s c.at None) (force_close_handles s c.handle c.recursive)
+act_of s now e (Start c) = Ok (start s e.who c.peer)
+act_of s now e End = Ok (end_session s e.session)
+act_of s now e (SmbOpen c) =
+    smb_open s now e.session e.call c.share c.path c.access.access c.mode c.how c.dir c.access.on_close
+act_of s now e (SmbClose c) = at_place (handle_place s (handle_in e c.index) (access_needed e.call)) (smb_close s)
+act_of s now e (SmbRead c) =
+    at_place (held_file s (handle_in e c.index) (access_needed e.call)) (smb_read s e.call c.range.at c.range.count)
+act_of s now e (SmbWrite c) =
+    at_place (held_file s (handle_in e c.index) (access_needed e.call))
+    (smb_write s now e.call c.write.at c.write.piece)
+act_of s now e (SmbResize c) =
+    at_place (held_file s (handle_in e c.index) (access_needed e.call)) (smb_resize s now e.call c.length)
+act_of s now e (SmbLock c) =
+    at_place (held_file s (handle_in e c.index) (access_needed e.call))
+    (smb_lock s c.range.from c.range.end c.exclusive)
+act_of s now e (SmbUnlock c) =
+    at_place (held_file s (handle_in e c.index) (access_needed e.call))
+    (smb_unlock s c.range.from c.range.end c.exclusive)
+act_of s now e (SmbStat c) = at_place (handle_place s (handle_in e c.index) (access_needed e.call)) (smb_stat s)
+act_of s now e (SmbList c) =
+    at_place (held_directory s (handle_in e c.index) (access_needed e.call)) (smb_list s c.marker c.max)
+act_of s now e (SmbDispose c) =
+    at_place (handle_place s (handle_in e c.index) (access_needed e.call)) (smb_dispose s e.call c.on)
 
-abbrev pub granted_in : Option Live → ℕ
-granted_in None = 0
-granted_in (Some l) = l.granted
+-- the stamp that an entry gives: its moment, and its place, which is one more than the entries before it
+abbrev pub stamp_in : Account → Entry → Stamp
+stamp_in a e = record { changed = e.at; etag = a.came + 1 }
 
--- the index that the session's next open is given
-abbrev pub next_index : Account → ℕ → ℕ
-next_index a session = granted_in (session_of a session) + 1
+-- what an entry is in an account
+abbrev pub act_in : Account → Entry → Result Act Refusal
+act_in a e = act_of a.store (stamp_in a e) e e.call
 
-abbrev pub grant : Live → Live
-grant l = record l { granted = l.granted + 1 }
+-- the first check that applies: that of the place, or the first at the place
+abbrev pub first_in : Store → Result Act Refusal → Option Refusal
+first_in s (Err r) = Some r
+first_in s (Ok act) = first_check s act.checks
 
--- one more open of a session on a node
-abbrev pub opened : Account → ℕ → ℕ → ℕ → ℕ → Access → Mode → Account
-opened a at session share node access mode = record a {
-  sessions = change (is_session session) grant a.sessions;
-  opens = with_open
-      (record {
-        handle = record { session = session; index = next_index a session };
-        share = share;
-        node = node;
-        access = access;
-        mode = mode;
-        on_close = false;
-        at = at;
-      }) a.opens;
-}
+-- THE FIRST REFUSAL of an entry in an account, if any check applies
+abbrev pub first_refusal : Account → Entry → Option Refusal
+first_refusal a e = first_in a.store (act_in a e)
 
--- an empty file of an id in a directory
-abbrev pub new_file : ℕ → ℕ → Node
-new_file id parent = record { id = id; parent = parent; kind = File (record { bytes = [] }) }
+-- what an act comes to: a refusal changes nothing
+abbrev pub unless_refused : Store → Act → Option Refusal → Store × Reply
+unless_refused s act None = (act.store, act.reply)
+unless_refused s act (Some r) = (s, Refused r)
 
--- one more file, under a name in a directory of a share
-abbrev pub with_file : Account → ℕ → ℕ → List ℕ → Account
-with_file a share parent name = record a {
-  next_id = a.next_id + 1;
-  shares = change_at share (λ s. record s { tree = with_node s.tree parent name (new_file a.next_id parent) }) a.shares;
-}
+-- the store that is left, and the reply
+abbrev pub outcome : Store → Result Act Refusal → Store × Reply
+outcome s (Err r) = (s, Refused r)
+outcome s (Ok act) = unless_refused s act (first_check s act.checks)
 
--- the last part of a path
-abbrev pub last_part : List (List ℕ) → Option (List ℕ)
-last_part path = slice_get path (length path - 1)
+-- one more entry came, and left this
+abbrev pub with_entry : Account → Store × Reply → Account × Reply
+with_entry a out = (record { came = a.came + 1; store = out.0 }, out.1)
 
-abbrev pub made_and_opened : Account → ℕ → ℕ → ℕ → ℕ → Access → Mode → Option (List ℕ) → Account
-made_and_opened a at session share parent access mode None = a
-made_and_opened a at session share parent access mode (Some name) =
-    opened (with_file a share parent name) at session share a.next_id access mode
-
--- an open of what a path leads to, or of a new file where it leads to nothing
-abbrev pub opens_at : Account → ℕ → ℕ → List (List ℕ) → Access → Mode → ℕ → Found → Account
-opens_at a at session path access mode share (found.Node id) = opened a at session share id access mode
-opens_at a at session path access mode share (found.Missing parent) =
-    made_and_opened a at session share parent access mode (last_part path)
-opens_at a at session path access mode share (found.NoParent parts) = a
-
-abbrev pub opens_in : Account → ℕ → ℕ → List (List ℕ) → Access → Mode → Option (ℕ × Found) → Account
-opens_in a at session path access mode None = a
-opens_in a at session path access mode (Some place) = opens_at a at session path access mode place.0 place.1
-
--- the length of a node, 0 where there is none
-abbrev pub length_in : Option Node → ℕ
-length_in None = 0
-length_in (Some node) = length_of node.kind
-
-abbrev pub opened_says : Account → ℕ → ℕ → Found → Reply
-opened_says a session share (found.Node id) = Smb (Opened (next_index a session) false id (length_in (node_in a.shares share id)))
-opened_says a session share (found.Missing parent) = Smb (Opened (next_index a session) true a.next_id 0)
-opened_says a session share (found.NoParent parts) = Smb (Opened (next_index a session) false 0 0)
-
-abbrev pub opens_say : Account → ℕ → Option (ℕ × Found) → Reply
-opens_say a session None = Smb (Opened (next_index a session) false 0 0)
-opens_say a session (Some place) = opened_says a session place.0 place.1
-
-abbrev pub bytes_in : Option Node → List ℕ
-bytes_in None = []
-bytes_in (Some node) = bytes_of node.kind
-
--- the bytes of the file on which a handle is open
-abbrev pub bytes_at : Account → Option Open → List ℕ
-bytes_at a None = []
-bytes_at a (Some o) = bytes_in (node_in a.shares o.share o.node)
-
-abbrev pub written_share : ℕ → Placed → Share → Share
-written_share node update s = record s { tree = written_nodes node update.at update.piece s.tree }
-
--- bytes written into the file on which a handle is open
-abbrev pub writes_at : Account → Placed → Option Open → Account
-writes_at a update None = a
-writes_at a update (Some o) = record a { shares = change_at o.share (written_share o.node update) a.shares }
-
--- what a call that is not refused changes
-abbrev pub changed : Account → ℕ → ℕ → ℕ → Call → Account
-changed a who session at (CreateShare share quota) = with_share a share quota
-changed a who session at (Start peer) = with_session a who peer
-changed a who session at End = without_session a session
-changed a who session at (SmbOpen share path access mode how) = opens_in a at session path access mode (place_of a share path)
-changed a who session at (SmbClose index) = record a { opens = filter (λ o. not (has_handle session index o)) a.opens }
-changed a who session at (SmbRead index from count) = a
-changed a who session at (SmbWrite index update) = writes_at a update (open_of a session index)
-
--- what such a call is answered
-abbrev pub said : Account → ℕ → Call → Reply
-said a session (CreateShare share quota) = Created
-said a session (Start peer) = Smb (Started (a.started + 1))
-said a session End = Smb (Ended (count_by (is_of_session session) a.opens))
-said a session (SmbOpen share path access mode how) = opens_say a session (place_of a share path)
-said a session (SmbClose index) = Smb (Closed Kept)
-said a session (SmbRead index from count) = Smb (Bytes (take count (drop from (bytes_at a (open_of a session index)))))
-said a session (SmbWrite index update) =
-    Smb (Wrote (length update.piece) (length (written (bytes_at a (open_of a session index)) update.at update.piece)))
-
-abbrev pub came_one : Account → Account
-came_one a = record a { came = a.came + 1 }
-
--- the account after a call and its reply: a call that is refused changes only the count of entries
-abbrev pub outcome : Account → ℕ → ℕ → ℕ → Call → Option Refusal → Account × Reply
-outcome a who session at call None = (came_one (changed a who session at call), said a session call)
-outcome a who session at call (Some refusal) = (came_one a, Refused refusal)
-
+-- THE STEP: the account after an entry, and its reply
 abbrev pub step : Account → Entry → Account × Reply
-step a e = outcome a e.who e.session e.at e.call (first a e.session e.call)
+step a e = with_entry a (outcome a.store (act_in a e))
 
 -- the account after more entries
 abbrev pub after : Account → List Noted → Account
 after a [] = a
 after a (n ∷ ns) = after (step a n.entry).0 ns
 
--- the account after a whole history
+-- THE REPLAY: the account that a history leaves
 abbrev pub replay : List Noted → Account
 replay ns = after empty ns
+
+-- the reply to the entry at a place of a history, counted from 1
+abbrev pub reply_at : List Noted → ℕ → Option Reply
+reply_at ns place = option_map (λ n. (step (replay (take (place - 1) ns)) n.entry).1) (slice_get ns (place - 1))

@@ -12,10 +12,10 @@ use Rattle.sx_text.proofs.Machines.{machine-reading}
 
 -- each text is read
 
-plain : (b : ℕ) → (b ≡ 38 → ⊥) → (b ≡ 60 → ⊥) → (b ≡ 62 → ⊥) → escape b ≡ b ∷ []
+pub plain : (b : ℕ) → (b ≡ 38 → ⊥) → (b ≡ 60 → ⊥) → (b ≡ 62 → ⊥) → escape b ≡ b ∷ []
 plain b p q r = rw (ne_eqb b 38 p, ne_eqb b 60 q, ne_eqb b 62 r) refl
 
-high_plain : (b : ℕ) → 128 ≤ b → escape b ≡ b ∷ []
+pub high_plain : (b : ℕ) → 128 ≤ b → escape b ≡ b ∷ []
 high_plain b le = plain b (λ q. omega (arith, q, le)) (λ q. omega (arith, q, le)) (λ q. omega (arith, q, le))
 
 ascii_step : (kept : List ℕ) (b : ℕ) → (b ≡ 38 → ⊥) → (b ≡ 60 → ⊥) → (b ≡ 62 → ⊥) → b < 128 → escaped_step (kept, Between) b ≡ Goes (kept ++ b ∷ [], Between)
@@ -48,7 +48,7 @@ escape_62 : (kept bs : List ℕ) → Leads escaped_step (kept ++ 62 ∷ [], Betw
 escape_62 kept bs l = subst (λ (x : List ℕ). Leads escaped_step (kept ++ 62 ∷ [], Between) (escaped bs ++ 60 ∷ []) x) (append_assoc kept (62 ∷ []) bs) l
 
 -- the spots that come: a tail's range has a byte, and none of ASCII
-abbrev IsHigh : Spot → Type 0
+abbrev pub IsHigh : Spot → Type 0
 IsHigh (Tail low high more) = (128 ≤ low) × (low ≤ high)
 IsHigh s = Unit {0}
 
@@ -76,10 +76,10 @@ high_from o WantsP h e = tt
 high_from o (Tee code) h e = tt
 high_from o (Semi code) h e = tt
 
-lead_high : (b : ℕ) (s : Spot) → lead_of b ≡ Some s → IsHigh s
+pub lead_high : (b : ℕ) (s : Spot) → lead_of b ≡ Some s → IsHigh s
 lead_high b s e = high_from (lead_of b) s (lead_ok b) e
 
-behind_high : (n : ℕ) → IsHigh (behind n)
+pub behind_high : (n : ℕ) → IsHigh (behind n)
 behind_high zero = tt
 behind_high (suc n) = (omega arith, omega arith)
 

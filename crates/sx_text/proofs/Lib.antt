@@ -7,3 +7,4 @@ pub mod Machines
 pub mod Numbers
 pub mod FixedDigits
 pub mod EscapedTexts
+pub mod Utf8

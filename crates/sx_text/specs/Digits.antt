@@ -1,5 +1,6 @@
 -- Numbers in a fixed count of digits, between two limits.
-use Rattle.std.specs.Prelude.{ℕ, zero, suc, ◌+◌, ◌-◌, ◌*◌, ◌/◌, ◌%◌, Bool, ◌&&◌, List, [], ◌∷◌, ◌++◌, nat_lt, nat_le, if◌then◌else◌}
+use Rattle.std.specs.Prelude.{ℕ, zero, suc, ◌+◌, ◌-◌, ◌*◌, ◌/◌, ◌%◌, Bool, ◌&&◌, List, [], ◌∷◌, ◌++◌, nat_lt, nat_le}
+use Rattle.std.specs.Prelude.{if◌then◌else◌}
 use Rattle.sx_text.specs.Texts.{Reader}
 use Rattle.sx_text.specs.Readers.{after}
 use Rattle.sx_text.specs.Machines.{Step, Ends, Goes, Fails, run_from}
@@ -17,8 +18,10 @@ meets (suc more) low high a p = meets more low high (10 * a) (10 * p)
 
 -- what a byte does, by how many digits are to come behind it and by the number so far
 abbrev pub digits_step : ℕ → ℕ → ℕ × ℕ → ℕ → Step (ℕ × ℕ) ℕ
-digits_step low high (zero, v) b = if is_digit b && meets 0 low high (v * 10 + (b - 48)) 1 then Ends (v * 10 + (b - 48)) else Fails
-digits_step low high (suc more, v) b = if is_digit b && meets (suc more) low high (v * 10 + (b - 48)) 1 then Goes (more, v * 10 + (b - 48)) else Fails
+digits_step low high (zero, v) b = if is_digit b && meets 0 low high (v * 10 + (b - 48)) 1
+    then Ends (v * 10 + (b - 48)) else Fails
+digits_step low high (suc more, v) b = if is_digit b && meets (suc more) low high (v * 10 + (b - 48)) 1
+    then Goes (more, v * 10 + (b - 48)) else Fails
 
 -- a number of more + 1 digits
 unfoldable pub digits_at : ℕ → ℕ → ℕ → Reader ℕ ℕ

@@ -1,18 +1,23 @@
 -- Texts of UTF-8 (RFC 3629) in which `&`, `<` and `>` are escaped (XML 1.0, section 4.6), and the `<` behind them.
-use Rattle.std.specs.Prelude.{codes, ◌≡◌, ℕ, zero, suc, ◌≤◌, ◌<◌, ◌⊎◌, ◌&&◌, List, [], ◌∷◌, ◌++◌, Option, Some, None, nat_lt, nat_le, ◌==◌, if◌then◌else◌}
+use Rattle.std.specs.Prelude.{codes, ◌≡◌, ℕ, zero, suc, ◌≤◌, ◌<◌, ◌⊎◌, ◌&&◌, List, [], ◌∷◌, ◌++◌, Option, Some, None}
+use Rattle.std.specs.Prelude.{nat_lt, nat_le, ◌==◌, if◌then◌else◌}
 use Rattle.sx_text.specs.declared.escaped_reader.Spot.{Spot}
 use Rattle.sx_text.specs.declared.escaped_reader.Spot.TheVariants.{Between, Tail, Ampersand, WantsM, WantsP, Tee, Semi}
 use Rattle.sx_text.specs.Texts.{Reader}
 use Rattle.sx_text.specs.Readers.{after}
 use Rattle.sx_text.specs.Machines.{Step, Ends, Goes, Fails, run_from}
 
+-- a byte as it stands in a text of XML: `&`, `<` and `>` by their escapes, each other byte as it is
 abbrev pub escape : ℕ → List ℕ
-escape b = if b == 38 then codes "&amp;" else (if b == 60 then codes "&lt;" else (if b == 62 then codes "&gt;" else b ∷ []))
+escape b = if b == 38 then codes "&amp;"
+    else (if b == 60 then codes "&lt;" else (if b == 62 then codes "&gt;" else b ∷ []))
 
+-- bytes with their escapes
 abbrev pub escaped : List ℕ → List ℕ
 escaped [] = []
 escaped (b ∷ bs) = escape b ++ escaped bs
 
+-- bytes with their escapes, and the `<` behind them
 abbrev pub escaped_text : List ℕ → List ℕ
 escaped_text bs = escaped bs ++ 60 ∷ []
 
@@ -49,6 +54,7 @@ Chars (Semi code) bs = ⊥
 abbrev pub Place : Type 0
 Place = List ℕ × Spot
 
+-- the step to a spot, where there is one
 abbrev pub leads_to : List ℕ → Option Spot → Step Place (List ℕ)
 leads_to kept None = Fails
 leads_to kept (Some s) = Goes (kept, s)
@@ -60,13 +66,16 @@ escaped_step (kept, Between) b =
     else (if b == 62 then Fails
     else (if b == 38 then Goes (kept, Ampersand)
     else (if nat_lt b 128 then Goes (kept ++ b ∷ [], Between) else leads_to (kept ++ b ∷ []) (lead_of b))))
-escaped_step (kept, Tail low high more) b = if nat_le low b && nat_le b high then Goes (kept ++ b ∷ [], behind more) else Fails
-escaped_step (kept, Ampersand) b = if b == 97 then Goes (kept, WantsM) else (if b == 108 then Goes (kept, Tee 60) else (if b == 103 then Goes (kept, Tee 62) else Fails))
+escaped_step (kept, Tail low high more) b = if nat_le low b && nat_le b high then Goes (kept ++ b ∷ [], behind more)
+    else Fails
+escaped_step (kept, Ampersand) b = if b == 97 then Goes (kept, WantsM)
+    else (if b == 108 then Goes (kept, Tee 60) else (if b == 103 then Goes (kept, Tee 62) else Fails))
 escaped_step (kept, WantsM) b = if b == 109 then Goes (kept, WantsP) else Fails
 escaped_step (kept, WantsP) b = if b == 112 then Goes (kept, Semi 38) else Fails
 escaped_step (kept, Tee code) b = if b == 116 then Goes (kept, Semi code) else Fails
 escaped_step (kept, Semi code) b = if b == 59 then Goes (kept ++ code ∷ [], Between) else Fails
 
+-- reading such a text from the front
 unfoldable pub escaped_at : Reader ℕ (List ℕ)
 escaped_at bytes = run_from escaped_step ([], Between) bytes
 

@@ -9,6 +9,7 @@ abbrev pub Reads : {X Y : Type 0} → (X → Y) → Result X Unread → Result Y
 Reads view (Ok x) read = read ≡ Ok (view x)
 Reads view (Err unread) read = read ≡ Err unread.left
 
+-- reading fails at the place of the fault; memory that is refused says nothing
 abbrev pub FailsAs : {Y : Type 0} → Fault → Result Y ℕ → Type 0
 FailsAs faults.NoMemory read = Unit {0}
 FailsAs (faults.Unread left) read = read ≡ Err left

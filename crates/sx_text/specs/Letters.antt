@@ -5,6 +5,7 @@ use Rattle.sx_text.specs.declared.escaped_reader.Letter.TheVariants.{Done, Kept,
 use Rattle.sx_text.specs.Machines.{Step, Ends, Goes, Fails}
 use Rattle.sx_text.specs.Escapes.{Place}
 
+-- the step that a letter shows, behind the bytes kept so far
 abbrev pub shown_letter : List ℕ → Letter → Step Place (List ℕ)
 shown_letter kept Done = Ends kept
 shown_letter kept (Kept b s) = Goes (kept ++ b ∷ [], s)

@@ -8,6 +8,7 @@ pub data Step (S V : Type 0) : Type 0 where
   Goes : S → Step S V
   Fails : Step S V
 
+-- one of three values, by a step
 abbrev pub by_step : {S V X : Type 0} → Step S V → (V → X) → (S → X) → X → X
 by_step (Ends v) ends goes fails = ends v
 by_step (Goes s) ends goes fails = goes s
@@ -18,6 +19,7 @@ abbrev pub run_from : {S V E : Type 0} → (S → E → Step S V) → S → Read
 run_from step s [] = Err 0
 run_from step s (x ∷ xs) = by_step (step s x) (λ v. Ok (v, xs)) (λ t. run_from step t xs) (Err (suc (length xs)))
 
+-- one of two facts, by a step that does not fail
 abbrev pub By : {S V : Type 0} → Step S V → (V → Type 0) → (S → Type 0) → Type 0
 By (Ends v) ends goes = ends v
 By (Goes s) ends goes = goes s

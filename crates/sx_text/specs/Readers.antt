@@ -2,6 +2,7 @@
 use Rattle.std.specs.Prelude.{◌≡◌, ℕ, zero, suc, ◌+◌, List, [], ◌∷◌, ◌++◌, length, Result, Ok, Err, ◌==◌, if◌then◌else◌}
 use Rattle.sx_text.specs.Texts.{Reader}
 
+-- what is read, and then the next
 infixl 10 ◌>>=◌
 abbrev pub ◌>>=◌ : {A B : Type 0} → Result A ℕ → (A → Result B ℕ) → Result B ℕ
 (Ok x) >>= f = f x
@@ -33,7 +34,8 @@ made_at make read items = read items >>= λ x. Ok (make x.0, x.1)
 unfoldable pub values_at : {A : Type 0} → ℕ → ℕ → Reader ℕ A → Reader ℕ (List A)
 values_at zero stop read bytes = Err (length bytes)
 values_at (suc n) stop read [] = Err 0
-values_at (suc n) stop read (b ∷ bs) = if b == stop then Ok ([], bs) else (read (b ∷ bs) >>= λ x. (values_at n stop read x.1 >>= λ y. Ok (x.0 ∷ y.0, y.1)))
+values_at (suc n) stop read (b ∷ bs) = if b == stop then Ok ([], bs)
+    else (read (b ∷ bs) >>= λ x. (values_at n stop read x.1 >>= λ y. Ok (x.0 ∷ y.0, y.1)))
 
 -- values up to a byte that begins none of them
 abbrev pub all_values_at : {A : Type 0} → ℕ → Reader ℕ A → Reader ℕ (List A)

@@ -1,3 +1,4 @@
+//! Reading a fixed number of decimal digits within limits, with the place of their fault.
 ghost use Rattle.std.specs.Prelude.{◌≡◌, ◌<◌, ◌≤◌, ◌+◌, ◌^◌, suc, IfOk};
 ghost use Rattle.sx_text.specs.Numbers.{IsFrom};
 ghost use Rattle.sx_text.specs.Digits.{meets, digits_step, digits_at, digits_after};
@@ -88,8 +89,8 @@ fn digits_one_by_one(bytes: &[u8], more: u32, low: u64, high: u64) -> Result<(u6
     Err(Unread { left: 0 })
 }
 
-/// Takes a number of `more` + 1 digits from `low` to `high`, and gives it and the bytes behind it. A digit that no number within
-/// the limits has there is a fault at that digit.
+/// Takes a number of `more` + 1 digits from `low` to `high`, and gives it and the bytes behind it. A digit that no
+/// number within the limits has there is a fault at that digit.
 pub fn digits(bytes: &[u8], more: u32, low: u64, high: u64) -> Result<(u64, &[u8]), Unread>
     requires few { more ≤ 6 }
     requires order { low ≤ high }

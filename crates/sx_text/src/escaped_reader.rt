@@ -1,4 +1,5 @@
-ghost use Rattle.std.specs.Prelude.{◌≡◌, ℕ, List, IfOk};
+//! Reading a text in UTF-8 with the escapes of XML, with the place of its fault.
+ghost use Rattle.std.specs.Prelude.{◌≡◌, ℕ, List, Some, IfOk};
 ghost use Rattle.sx_text.specs.Given.{Gives};
 ghost use Rattle.sx_text.specs.Escapes.{lead_of, behind, escaped_step, escaped_at, escaped_after, IsWhole};
 ghost use Rattle.sx_text.specs.declared.escaped_reader.Spot.TheVariants.{Between, Tail, Ampersand};
@@ -17,23 +18,37 @@ pub enum Spot {
     Tail { low: u8, high: u8, more: u8 },
     /// Behind `&`.
     Ampersand,
-    /// Behind `&a`, and `&am`.
+    /// Behind `&a`.
     WantsM,
+    /// Behind `&am`.
     WantsP,
-    /// Before `t;`, and before `;`, of an escape of `code`.
+    /// Before `t;` of an escape of `code`.
     Tee { code: u8 },
+    /// Before `;` of an escape of `code`.
     Semi { code: u8 },
 }
 
-/// What a byte does in a text: it ends it, is kept (or a byte that it stands for), is passed over, or can't stand there.
+/// What a byte does in a text.
 #[derive(Clone, Copy, Debug, PartialEq, Eq)]
 pub enum Letter {
+    /// It ends the text.
     Done,
+    /// It is kept, or one that it stands for.
     Kept { byte: u8, spot: Spot },
+    /// It is passed over.
     Passed { spot: Spot },
+    /// It can't stand there.
     Wrong,
 }
 
+/// The spot behind a first byte, as an option.
+fn tail_spot(low: u8, high: u8, more: u8) -> Option<Spot>
+    ensures { result ≡ Some (Tail low high more) }
+{
+    Some(Spot::Tail { low, high, more })
+}
+
+/// What follows a first byte from 128 on (RFC 3629, section 4): the limits of the second byte, and how many follow it.
 #[tactic(auto, unfolding(crate::specs::Escapes::lead_of))]
 fn lead(byte: u8) -> Option<Spot>
     ensures { result ≡ lead_of byte }
@@ -41,52 +56,25 @@ fn lead(byte: u8) -> Option<Spot>
     if byte < 194 {
         None
     } else if byte < 224 {
-        Some(Spot::Tail {
-            low: 128,
-            high: 191,
-            more: 0,
-        })
+        tail_spot(128, 191, 0)
     } else if byte == 224 {
-        Some(Spot::Tail {
-            low: 160,
-            high: 191,
-            more: 1,
-        })
+        tail_spot(160, 191, 1)
     } else if byte == 237 {
-        Some(Spot::Tail {
-            low: 128,
-            high: 159,
-            more: 1,
-        })
+        tail_spot(128, 159, 1)
     } else if byte < 240 {
-        Some(Spot::Tail {
-            low: 128,
-            high: 191,
-            more: 1,
-        })
+        tail_spot(128, 191, 1)
     } else if byte == 240 {
-        Some(Spot::Tail {
-            low: 144,
-            high: 191,
-            more: 2,
-        })
+        tail_spot(144, 191, 2)
     } else if byte < 244 {
-        Some(Spot::Tail {
-            low: 128,
-            high: 191,
-            more: 2,
-        })
+        tail_spot(128, 191, 2)
     } else if byte == 244 {
-        Some(Spot::Tail {
-            low: 128,
-            high: 143,
-            more: 2,
-        })
+        tail_spot(128, 143, 2)
     } else {
         None
     }
 }
 
+/// The spot where so many more bytes of a character stand.
 fn behind(more: u8) -> Spot
     ensures { result ≡ behind more }
 {
@@ -101,6 +89,7 @@ fn behind(more: u8) -> Spot
     }
 }
 
+/// What a byte between two characters does.
 fn between(byte: u8) -> Letter
     ensures { (kept : List ℕ) → shown_letter kept result ≡ escaped_step (kept, Between) byte }
 {
@@ -127,6 +116,7 @@ fn between(byte: u8) -> Letter
     }
 }
 
+/// What a byte behind `&` does.
 fn ampersand(byte: u8) -> Letter
     ensures { (kept : List ℕ) → shown_letter kept result ≡ escaped_step (kept, Ampersand) byte }
 {
@@ -146,6 +136,7 @@ fn ampersand(byte: u8) -> Letter
     Letter::Wrong
 }
 
+/// What a byte inside a character does.
 fn tail(low: u8, high: u8, more: u8, byte: u8) -> Letter
     ensures { (kept : List ℕ) → shown_letter kept result ≡ escaped_step (kept, Tail low high more) byte }
 {
@@ -158,6 +149,7 @@ fn tail(low: u8, high: u8, more: u8, byte: u8) -> Letter
     Letter::Wrong
 }
 
+/// What a byte does.
 fn letter_of(spot: Spot, byte: u8) -> Letter
     ensures { (kept : List ℕ) → shown_letter kept result ≡ escaped_step (kept, spot) byte }
 {
@@ -195,6 +187,7 @@ fn letter_of(spot: Spot, byte: u8) -> Letter
     }
 }
 
+/// Takes a text, byte by byte.
 #[tactic(auto, unfolding(crate::specs::Escapes::escaped_at))]
 fn letters(alloc: Global, bytes: &[u8]) -> Result<(Vec<u8>, &[u8]), Fault>
     ensures { Gives (λ x. (x.0.items, x.1.now)) result (escaped_at bytes.now) }
@@ -222,8 +215,8 @@ fn letters(alloc: Global, bytes: &[u8]) -> Result<(Vec<u8>, &[u8]), Fault>
     Err(Fault::Unread { left: 0 })
 }
 
-/// Takes a text of UTF-8 in which `&`, `<` and `>` are escaped as `&amp;`, `&lt;` and `&gt;`, and the `<` behind it, and gives
-/// the bytes for which it stands and the bytes behind that `<`.
+/// Takes a text of UTF-8 in which `&`, `<` and `>` are escaped as `&amp;`, `&lt;` and `&gt;`, and the `<` behind it,
+/// and gives the bytes for which it stands and the bytes behind that `<`.
 pub fn escaped_text(alloc: Global, bytes: &[u8]) -> Result<(Vec<u8>, &[u8]), Fault>
     ensures reading { Gives (λ x. (x.0.items, x.1.now)) result (escaped_at bytes.now) }
     ensures whole { IfOk result (λ x. IsWhole x.0.items) }

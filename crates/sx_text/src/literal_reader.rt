@@ -1,3 +1,4 @@
+//! Reading a literal.
 ghost use Rattle.sx_text.specs.Readers.{literal_at};
 ghost use Rattle.sx_text.specs.Given.{Reads};
 

@@ -1,3 +1,4 @@
+//! Reading a decimal number within limits, with the place of its fault.
 ghost use Rattle.std.specs.Prelude.{◌≡◌, ◌<◌, ◌≤◌, ◌^◌, Some, None, false, IfOk};
 ghost use Rattle.sx_text.specs.Numbers.{IsFrom, is_digit, may_begin, number_step, number_at, number_after};
 ghost use Rattle.sx_text.specs.Given.{Reads};
@@ -98,8 +99,8 @@ fn number_by_digits(bytes: &[u8], stop: u8, low: u64, high: u64) -> Result<(u64,
     Err(Unread { left: 0 })
 }
 
-/// Takes a decimal number from `low` to `high`, without leading zeros, and the byte `stop` behind it, and gives the number and
-/// the bytes behind `stop`. A digit that no number within the limits has there is a fault at that digit.
+/// Takes a decimal number from `low` to `high`, without leading zeros, and the byte `stop` behind it, and gives the
+/// number and the bytes behind `stop`. A digit that no number within the limits has there is a fault at that digit.
 pub fn number(bytes: &[u8], stop: u8, low: u64, high: u64) -> Result<(u64, &[u8]), Unread>
     requires order { low ≤ high }
     requires stop { is_digit stop ≡ false }

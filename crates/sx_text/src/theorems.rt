@@ -1,10 +1,13 @@
-ghost use Rattle.std.specs.Prelude.{◌≡◌, ◌<◌, ◌≤◌, ◌^◌, ℕ, suc, List, false, ◌++◌, ◌⊎◌};
+//! The laws of readers, as functions that do nothing.
+ghost use Rattle.std.specs.Prelude.{◌≡◌, ◌<◌, ◌≤◌, ◌^◌, ℕ, suc, List, true, false, ◌++◌, ◌⊎◌};
+ghost use Rattle.std.specs.Str.{is_utf8};
 ghost use Rattle.std.specs.List.{AllByRecursion};
 ghost use Rattle.sx_text.specs.Texts.{Reader, IsReading, IsWholeReading};
-ghost use Rattle.sx_text.specs.Readers.{after, pair_at, closed_at, made_at, all_values_at, values_text, IsNoStart, whole_of};
+ghost use Rattle.sx_text.specs.Readers.{after, pair_at, closed_at, made_at, all_values_at, values_text, IsNoStart};
+ghost use Rattle.sx_text.specs.Readers.{whole_of};
 ghost use Rattle.sx_text.specs.Machines.{Step, run_from, Leads, IsLive};
 ghost use Rattle.sx_text.specs.Numbers.{IsFrom, is_digit, number_text, number_at, number_after};
-ghost use Rattle.sx_text.specs.Escapes.{IsWhole, escaped_text, escaped_at, escaped_after};
+ghost use Rattle.sx_text.specs.Escapes.{IsWhole, escaped, escaped_text, escaped_at, escaped_after};
 ghost use Rattle.sx_text.specs.Digits.{digits_text, digits_at, digits_after};
 
 /// A form of text over items of type `E`: the text of each value, and the values that have one.
@@ -26,15 +29,15 @@ pub trait State {
     ghost Live: { Self → Type 0 };
 }
 
-/// The law of whole texts: a reader of a form that has to end with the items reads exactly the texts, and else tells the length
-/// of the longest prefix that begins one. It does nothing.
+/// The law of whole texts: a reader of a form that has to end with the items reads exactly the texts, and else tells
+/// the length of the longest prefix that begins one. It does nothing.
 pub fn whole_texts_are_read<E, A: Form<E>>()
     ensures { ((x y : E) → (x ≡ y) ⊎ (x ≡ y → ⊥)) → (read : Reader E A) → IsReading A.text A.Fits read
         → IsWholeReading A.text A.Fits (whole_of read) }
 {}
 
-/// The law of pairs: a value, and then one whose form may depend on it, where each first value that fits has a second one. It
-/// does nothing.
+/// The law of pairs: a value, and then one whose form may depend on it, where each first value that fits has a second
+/// one. It does nothing.
 pub fn pairs_are_read<E, A: Form<E>, B: FormBehind<E, A>>()
     ensures { ((x y : E) → (x ≡ y) ⊎ (x ≡ y → ⊥)) → (first : Reader E A) (next : A → Reader E B)
         → IsReading A.text A.Fits first → ((a : A) → A.Fits a → (b : B) × B.Fits a b)
@@ -64,7 +67,8 @@ pub fn values_are_read<A: Form<u8>>()
         → IsReading (values_text A.text stop) (AllByRecursion A.Fits) (all_values_at stop read) }
 {}
 
-/// The law of machines: a machine that starts in a live state reads exactly the items that lead to its end. It does nothing.
+/// The law of machines: a machine that starts in a live state reads exactly the items that lead to its end. It does
+/// nothing.
 pub fn machines_read<E, V: Form<E>, S: State>()
     ensures { ((x y : E) → (x ≡ y) ⊎ (x ≡ y → ⊥)) → (step : S → E → Step S V) (s : S) → IsLive step S.Live → S.Live s
         → ((w : List E) (v : V) → Leads step s w v → V.Fits v × (V.text v ≡ w))
@@ -87,9 +91,18 @@ pub fn digits_are_read()
         → IsReading (λ n. literal ++ digits_text (suc more) n) (IsFrom low high) (digits_after literal more low high) }
 {}
 
-/// The law of escaped texts: texts of UTF-8 in which `&`, `<` and `>` are escaped are read exactly, with the `<` behind them. It
-/// does nothing.
+/// The law of escaped texts: texts of UTF-8 in which `&`, `<` and `>` are escaped are read exactly, with the `<`
+/// behind them. It does nothing.
 pub fn escaped_texts_are_read()
     ensures alone { IsReading escaped_text IsWhole escaped_at }
-    ensures behind { (literal : List ℕ) → IsReading (λ bytes. literal ++ escaped_text bytes) IsWhole (escaped_after literal) }
+    ensures behind { (literal : List ℕ)
+        → IsReading (λ bytes. literal ++ escaped_text bytes) IsWhole (escaped_after literal) }
+{}
+
+/// The law of whole characters: bytes that are whole characters are UTF-8 as std reads it, and the other way round;
+/// and a text with escapes is one where the text is. It does nothing.
+pub fn whole_characters_are_utf8()
+    ensures whole { (bytes : List ℕ) → IsWhole bytes → is_utf8 bytes ≡ true }
+    ensures utf8 { (bytes : List ℕ) → is_utf8 bytes ≡ true → IsWhole bytes }
+    ensures escaped { (bytes : List ℕ) → is_utf8 bytes ≡ true → is_utf8 (escaped bytes) ≡ true }
 {}

@@ -1,21 +1,23 @@
 -- What the commands `sign` and `check` write, and the statuses that they end with.
 use Rattle.std.specs.Prelude.{ℕ, ◌≡◌, ◌⊎◌, ◌++◌, List, [], codes, decimal, Option, Ok, Err}
 use Rattle.sx_base.specs.Causes.{Rose}
-use Rattle.sx_base.specs.Told.{Writes, WritesPrefix}
+use Rattle.sx_base.specs.Sink.{Writes, WritesPrefix}
 use Rattle.sx_http.specs.declared.heads.Head.{Head}
 use Rattle.sx_key.specs.Answers.{Checked}
-use Rattle.sx_key.specs.Auth.{auth}
+use Rattle.sx_key.specs.Checking.{auth}
 use Rattle.sx_key.specs.Signature.{string_to_sign, authorization}
 use Rattle.sx_key.specs.declared.account.Account.{Account}
-use Rattle.sx_key.specs.declared.fault.AuthFault.TheVariants.{NoHeader, BadHeader, OtherAccount, NoDate, BadDate, TooOld, TooNew, Differs, NoMemory}
-use Rattle.sx_tool.specs.Inputs.{IsOneHead, IsNoHead}
+use Rattle.sx_key.specs.declared.fault.AuthFault.TheVariants.{NoHeader, BadHeader, OtherAccount, NoDate, BadDate}
+use Rattle.sx_key.specs.declared.fault.AuthFault.TheVariants.{TooOld, TooNew, Differs, NoMemory}
+use Rattle.sx_tool.specs.Inputs.{IsOneHead, IsNoHead, TakesSome}
 use Rattle.sx_tool.specs.Typed.{IsSign, IsCheck, IsUnknown}
 
 -- the signed text, and the header that signs it
 abbrev pub signed_lines : Account → Head → List ℕ
-signed_lines account head = string_to_sign head account.name ++ codes "\nAuthorization: " ++ authorization head account ++ codes "\n"
+signed_lines account head =
+    string_to_sign head account.name ++ codes "\nAuthorization: " ++ authorization head account ++ codes "\n"
 
--- the verdict on a signed head; want of memory is none
+-- the verdict on a signed head; running out of memory is none
 abbrev pub verdict_line : Checked (Unit {0}) → List ℕ
 verdict_line (Ok u) = codes "ok\n"
 verdict_line (Err NoHeader) = codes "auth no-header\n"
@@ -28,6 +30,7 @@ verdict_line (Err (TooNew dated now)) = codes "auth too-new " ++ decimal dated +
 verdict_line (Err Differs) = codes "auth differs\n"
 verdict_line (Err NoMemory) = []
 
+-- 0 where there is no fault, else 8
 abbrev pub verdict_status : Checked (Unit {0}) → ℕ
 verdict_status (Ok u) = 0
 verdict_status (Err e) = 8
@@ -39,50 +42,68 @@ pub record Streams (K : Type 0) : Type 0 where
   pub out : K
   pub writes : ℕ
 
--- a text was written and the command ended with its status; or the write failed, and a prefix of it was written; or no memory
--- was left, and nothing was written
-abbrev pub Prints : {K : Type 0} → (K → List ℕ → Type 0) → List ℕ → ℕ → K → K → ℕ → ℕ → ℕ → Type 0
-Prints wrote text status old new before now result =
-    ((result ≡ status) × Writes wrote old new text)
+-- a text was written by puts alone and the command ended with its status; or a put failed, and a prefix of it was
+-- written; or memory ran out, and nothing was written
+abbrev pub Reports : {K : Type 0} → (K → List ℕ → Type 0) → List ℕ → ℕ → K → K → ℕ → ℕ → ℕ → Type 0
+Reports wrote text status old new before now result =
+    ((result ≡ status) × Writes wrote old new text × (now ≡ before))
     ⊎ ((result ≡ 4) × WritesPrefix wrote old new text × Rose before now)
     ⊎ ((result ≡ 5) × (new ≡ old) × (now ≡ before))
 
 -- the input is one head, and its text was written
-pub record Answered {K : Type 0} (wrote : K → List ℕ → Type 0) (line : Head → List ℕ) (status : Head → ℕ) (old new : Streams K) (result : ℕ) : Type 0 where
+pub record AnswersHead {K : Type 0} (wrote : K → List ℕ → Type 0) (line : Head → List ℕ) (status : Head → ℕ)
+    (old new : Streams K)
+    (result : ℕ) : Type 0 where
   pub head : Head
   pub read : IsOneHead old.left new.left head
-  pub printed : Prints wrote (line head) (status head) old.out new.out old.writes new.writes result
+  pub kept : new.reads ≡ old.reads
+  pub printed : Reports wrote (line head) (status head) old.out new.out old.writes new.writes result
 
--- nothing was written: the input isn't one head, a read failed, or no memory was left
-pub record Unanswered {K : Type 0} (old new : Streams K) (result : ℕ) : Type 0 where
+-- why nothing was answered: the input isn't one head, a read failed, or memory ran out
+abbrev pub NotAnswered : {K : Type 0} → Streams K → Streams K → ℕ → Type 0
+NotAnswered old new result =
+    ((result ≡ 2) × IsNoHead old.left new.left × (new.reads ≡ old.reads))
+    ⊎ ((result ≡ 3) × TakesSome old.left new.left × Rose old.reads new.reads)
+    ⊎ ((result ≡ 5) × TakesSome old.left new.left × (new.reads ≡ old.reads))
+
+-- nothing was written, for one of these reasons
+pub record AnswersNone {K : Type 0} (old new : Streams K) (result : ℕ) : Type 0 where
   pub unwritten : (new.out ≡ old.out) × (new.writes ≡ old.writes)
-  pub cause : ((result ≡ 2) × IsNoHead old.left new.left) ⊎ ((result ≡ 3) × Rose old.reads new.reads) ⊎ (result ≡ 5)
+  pub cause : NotAnswered old new result
 
 -- a command over the one head that the input is
-abbrev pub Does : {K : Type 0} → (K → List ℕ → Type 0) → (Head → List ℕ) → (Head → ℕ) → Streams K → Streams K → ℕ → Type 0
-Does wrote line status old new result = Answered wrote line status old new result ⊎ Unanswered old new result
+abbrev pub Does : {K : Type 0} → (K → List ℕ → Type 0) → (Head → List ℕ) → (Head → ℕ) → Streams K → Streams K → ℕ
+    → Type 0
+Does wrote line status old new result = AnswersHead wrote line status old new result ⊎ AnswersNone old new result
 
+-- `sign`: the signed text and the header that signs it
 abbrev pub Signs : {K : Type 0} → (K → List ℕ → Type 0) → Account → Streams K → Streams K → ℕ → Type 0
 Signs wrote account old new result = Does wrote (signed_lines account) (λ _. 0) old new result
 
+-- `check`: the verdict at a moment
 abbrev pub Checks : {K : Type 0} → (K → List ℕ → Type 0) → Account → ℕ → Streams K → Streams K → ℕ → Type 0
-Checks wrote account now old new result = Does wrote (λ head. verdict_line (auth head account now)) (λ head. verdict_status (auth head account now)) old new result
+Checks wrote account now old new result =
+    Does wrote (λ head. verdict_line (auth head account now))
+    (λ head. verdict_status (auth head account now)) old new result
 
--- the words are no command: nothing was read, and the refusal was written, or a prefix of it where the write failed
-pub record Refused {K : Type 0} (wrote : K → List ℕ → Type 0) (words : List (List ℕ)) (old new : Streams K) (result : ℕ) : Type 0 where
+-- the words are no command: nothing was read, and the refusal was written, or a prefix of it where the put failed
+pub record RefusesCommand {K : Type 0} (wrote : K → List ℕ → Type 0) (words : List (List ℕ)) (old new : Streams K)
+    (result : ℕ)
+    : Type 0 where
   pub unknown : IsUnknown words
   pub status_is : result ≡ 1
   pub unread : (new.left ≡ old.left) × (new.reads ≡ old.reads)
-  pub written : Writes wrote old.out new.out (codes "words refused\n") ⊎ (WritesPrefix wrote old.out new.out (codes "words refused\n") × Rose old.writes new.writes)
+  pub written : (Writes wrote old.out new.out (codes "words refused\n") × (new.writes ≡ old.writes))
+      ⊎ (WritesPrefix wrote old.out new.out (codes "words refused\n") × Rose old.writes new.writes)
 
--- no memory was left to read the words: nothing was read or written
-pub record Starved {K : Type 0} (old new : Streams K) (result : ℕ) : Type 0 where
+-- memory ran out while the words were read: nothing was read or written
+pub record IsOutOfMemory {K : Type 0} (old new : Streams K) (result : ℕ) : Type 0 where
   pub status_is : result ≡ 5
   pub same : new ≡ old
 
 -- what the tool does by its words
-abbrev pub Tooled : {K : Type 0} → (K → List ℕ → Type 0) → List (List ℕ) → Streams K → Streams K → ℕ → Type 0
-Tooled wrote words old new result =
-    Refused wrote words old new result ⊎ Starved old new result
+abbrev pub RunsTool : {K : Type 0} → (K → List ℕ → Type 0) → List (List ℕ) → Streams K → Streams K → ℕ → Type 0
+RunsTool wrote words old new result =
+    RefusesCommand wrote words old new result ⊎ IsOutOfMemory old new result
     ⊎ ((account : Account) × IsSign words account × Signs wrote account old new result)
     ⊎ ((account : Account) × (now : ℕ) × IsCheck words account now × Checks wrote account now old new result)

@@ -1,14 +1,14 @@
 -- The words of the tool's commands.
 use Rattle.std.specs.Prelude.{ℕ, ◌≡◌, ◌≤◌, List, [], ◌∷◌, codes, decimal, Ok}
-use Rattle.sx_base.specs.Moments.{greatest_moment}
-use Rattle.sx_key.specs.Answers.{account_of}
+use Rattle.sx_base.specs.Clock.{greatest_moment}
+use Rattle.sx_key.specs.Answers.{credentials_of}
 use Rattle.sx_key.specs.declared.account.Account.{Account}
-use Rattle.sx_tool.specs.declared.words.Command.{Command}
-use Rattle.sx_tool.specs.declared.words.Command.TheVariants as command
+use Rattle.sx_tool.specs.declared.words.Tool.{Tool}
+use Rattle.sx_tool.specs.declared.words.Tool.TheVariants as tool
 
 -- these words are this account's name and its key in base64
 abbrev pub IsAccount : List ℕ → List ℕ → Account → Type 0
-IsAccount name key account = account_of name key ≡ Ok (record { name = account.name; key = account.key })
+IsAccount name key account = credentials_of name key ≡ Ok (record { name = account.name; key = account.key })
 
 -- this word is a moment that a clock may tell, in decimal digits without leading zeros
 abbrev pub IsTicks : List ℕ → ℕ → Type 0
@@ -35,9 +35,9 @@ pub record IsUnknown (words : List (List ℕ)) : Type 0 where
   pub no_sign : (account : Account) → ¬ (IsSign words account)
   pub no_check : (account : Account) (now : ℕ) → ¬ (IsCheck words account now)
 
--- the command that the words are; want of memory is free
-abbrev pub Spells : Command → List (List ℕ) → Type 0
-Spells (command.Sign account) words = IsSign words account
-Spells (command.Check account now) words = IsCheck words account now
-Spells command.Unknown words = IsUnknown words
-Spells command.NoMemory words = Unit {0}
+-- the command that the words are; running out of memory is free
+abbrev pub Spells : Tool → List (List ℕ) → Type 0
+Spells (tool.Sign account) words = IsSign words account
+Spells (tool.Check account now) words = IsCheck words account now
+Spells tool.Unknown words = IsUnknown words
+Spells tool.NoMemory words = Unit {0}

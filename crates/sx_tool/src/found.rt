@@ -1,6 +1,7 @@
 //! The one head that an input is.
 
-ghost use Rattle.sx_tool.specs.Inputs.{Finds};
+ghost use Rattle.std.specs.Prelude.{◌≤◌};
+ghost use Rattle.sx_tool.specs.Inputs.{FindsHead};
 
 use crate::gathered::{Gathered, gather};
 use std::alloc::Global;
@@ -9,15 +10,22 @@ use sx_http::{Head, read_head};
 
 /// The head that an input is, or that it isn't one.
 pub(crate) enum Found {
+    /// The head.
     Head(Head),
+    /// The input isn't one head.
     NoHead,
+    /// A read failed.
     ReadFault,
+    /// Out of memory.
     NoMemory,
 }
 
 /// Takes an input, and reads the head that it is.
 pub(crate) fn find_head<S: Source>(alloc: Global, input: &mut S) -> Found
-    ensures { Finds result (S.left input.old) (S.left input.new) (S.read_count input.old) (S.read_count input.new) }
+    ensures found { FindsHead result (S.left input.old) (S.left input.new) (S.read_count input.old)
+        (S.read_count input.new) }
+    ensures later { S.read_count input.old ≤ S.read_count input.new }
+    ensures step { S.reads input.old input.new }
 {
     match gather(alloc, input) {
         Gathered::ReadFault => Found::ReadFault,

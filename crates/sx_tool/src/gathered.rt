@@ -1,64 +1,42 @@
 //! Taking all of an input that is no longer than a head.
 
-ghost use Rattle.std.specs.Prelude.{◌<◌, ◌≤◌, length};
-ghost use Rattle.sx_tool.specs.Inputs.{Takes, Gathers};
+ghost use Rattle.std.specs.Prelude.{◌≤◌};
+ghost use Rattle.sx_tool.specs.Inputs.{Gathers};
 
 use std::alloc::Global;
-use sx_base::{Items, Source};
+use sx_base::{Buffer, Items, Refill, Source};
+use sx_http::HEAD_LIMIT;
 
-/// The most bytes of a head.
-const HEAD_LIMIT: usize = 65_536;
+/// The most bytes that one read asks for.
+pub const PIECE_LIMIT: usize = 4_096;
 
-/// How many bytes one read asks for.
-const PIECE: usize = 4_096;
-
-/// How one read went.
-pub(crate) enum Filled {
-    More,
-    End,
-    ReadFault,
-    NoMemory,
-}
-
-/// An input's bytes, or that it has more than a head may have.
+/// An input's bytes, or why they aren't all there.
 pub(crate) enum Gathered {
+    /// All bytes of the input, no more than a head may have.
     Whole(Items<u8>),
+    /// The input has more bytes than a head may have.
     TooLong,
+    /// A read failed.
     ReadFault,
+    /// Out of memory.
     NoMemory,
 }
 
-/// Takes an input to its end, or past the most bytes of a head.
+/// Takes an input to its end, or past the most bytes of a head, but no more than one piece past them.
 pub(crate) fn gather<S: Source>(alloc: Global, input: &mut S) -> Gathered
-    ensures { Gathers result (S.left input.old) (S.left input.new) (S.read_count input.old) (S.read_count input.new) }
+    ensures gathered { Gathers result (S.left input.old) (S.left input.new) (S.read_count input.old)
+        (S.read_count input.new) }
+    ensures later { S.read_count input.old ≤ S.read_count input.new }
+    ensures step { S.reads input.old input.new }
 {
-    let mut bytes: Vec<u8> = Vec::new(alloc);
-    let Ok(mut piece) = vec![in alloc; 0; PIECE] else {
-        return Gathered::NoMemory;
-    };
-    while bytes.len() <= HEAD_LIMIT {
-        match take_piece(&mut bytes, &mut piece, input) {
-            Filled::More => {}
-            Filled::End => return Gathered::Whole(Items::of(bytes)),
-            Filled::ReadFault => return Gathered::ReadFault,
-            Filled::NoMemory => return Gathered::NoMemory,
+    let mut buffer = Buffer::new(alloc);
+    while buffer.held().len() <= HEAD_LIMIT {
+        match buffer.refill(input, PIECE_LIMIT) {
+            Refill::More => {}
+            Refill::End => return Gathered::Whole(buffer.into_items()),
+            Refill::ReadFault => return Gathered::ReadFault,
+            Refill::NoMemory => return Gathered::NoMemory,
         }
     }
     Gathered::TooLong
-}
-
-/// Reads once, and adds what came to the bytes.
-fn take_piece<S: Source>(bytes: &mut Vec<u8>, piece: &mut [u8], input: &mut S) -> Filled
-    requires { 0 < length piece.old }
-    ensures taken { Takes result bytes.old.items bytes.new.items (S.left input.old) (S.left input.new) (S.read_count input.old) (S.read_count input.new) }
-    ensures later { S.read_count input.old ≤ S.read_count input.new }
-{
-    match input.read(piece) {
-        Err(_) => Filled::ReadFault,
-        Ok(0) => Filled::End,
-        Ok(count) => match bytes.extend_from_slice(&piece[..count]) {
-            Ok(()) => Filled::More,
-            Err(_) => Filled::NoMemory,
-        },
-    }
 }

@@ -7,7 +7,6 @@ mod output;
 mod tool;
 mod words;
 
-pub use tool::run_tool;
-
-#[cfg(test)]
-mod tests;
+pub use gathered::PIECE_LIMIT;
+pub use tool::{check_input, run_tool, sign_input};
+pub use words::{Tool, tool_of};

@@ -9,28 +9,30 @@ use std::alloc::Global;
 use sx_base::GREATEST_MOMENT;
 use sx_key::{Account, AccountFault};
 
-/// A command, or why the words are none.
-pub(crate) enum Command {
+/// A command over one head, or why the words are none.
+pub enum Tool {
     /// `sign ACCOUNT KEY`
     Sign(Account),
     /// `check ACCOUNT KEY TICKS`
     Check(Account, u64),
+    /// The words are neither of the two.
     Unknown,
+    /// Out of memory.
     NoMemory,
 }
 
 /// The command of the words.
-pub(crate) fn command_of(alloc: Global, words: &[String]) -> Command
+pub fn tool_of(alloc: Global, words: &[String]) -> Tool
     ensures { Spells result (map string_bytes words.now) }
 {
     match words.len() {
         3 => three(alloc, words),
         4 => four(alloc, words),
-        _ => Command::Unknown,
+        _ => Tool::Unknown,
     }
 }
 
-fn three(alloc: Global, words: &[String]) -> Command
+fn three(alloc: Global, words: &[String]) -> Tool
     requires { length words.now ≡ 3 }
     ensures { Spells result (map string_bytes words.now) }
 {
@@ -42,20 +44,20 @@ fn three(alloc: Global, words: &[String]) -> Command
     )
 }
 
-fn sign_of(alloc: Global, verb: &str, name: &[u8], key: &[u8]) -> Command
+fn sign_of(alloc: Global, verb: &str, name: &[u8], key: &[u8]) -> Tool
     ensures { Spells result (verb.now ∷ name.now ∷ key.now ∷ []) }
 {
     if verb != "sign" {
-        return Command::Unknown;
+        return Tool::Unknown;
     }
     match Account::read(alloc, name, key) {
-        Ok(account) => Command::Sign(account),
-        Err(AccountFault::NoMemory) => Command::NoMemory,
-        Err(_) => Command::Unknown,
+        Ok(account) => Tool::Sign(account),
+        Err(AccountFault::NoMemory) => Tool::NoMemory,
+        Err(_) => Tool::Unknown,
     }
 }
 
-fn four(alloc: Global, words: &[String]) -> Command
+fn four(alloc: Global, words: &[String]) -> Tool
     requires { length words.now ≡ 4 }
     ensures { Spells result (map string_bytes words.now) }
 {
@@ -68,19 +70,19 @@ fn four(alloc: Global, words: &[String]) -> Command
     )
 }
 
-fn check_of(alloc: Global, verb: &str, name: &[u8], key: &[u8], ticks: &str) -> Command
+fn check_of(alloc: Global, verb: &str, name: &[u8], key: &[u8], ticks: &str) -> Tool
     ensures { Spells result (verb.now ∷ name.now ∷ key.now ∷ ticks.now ∷ []) }
 {
     if verb != "check" {
-        return Command::Unknown;
+        return Tool::Unknown;
     }
     let Some(now) = moment_of(ticks) else {
-        return Command::Unknown;
+        return Tool::Unknown;
     };
     match Account::read(alloc, name, key) {
-        Ok(account) => Command::Check(account, now),
-        Err(AccountFault::NoMemory) => Command::NoMemory,
-        Err(_) => Command::Unknown,
+        Ok(account) => Tool::Check(account, now),
+        Err(AccountFault::NoMemory) => Tool::NoMemory,
+        Err(_) => Tool::Unknown,
     }
 }
 

@@ -1,2 +1,10 @@
-pub mod Files
-pub mod Nodes
+pub mod Node
+pub mod Tree
+pub mod Find
+pub mod Body
+pub mod LentFacts
+pub mod Lent
+pub mod Climbs
+pub mod Copies
+pub mod Shift
+pub mod Pages

@@ -1,26 +1,65 @@
-ghost use Rattle.std.specs.Prelude.{◌≡◌, ◌+◌, ◌<◌, ◌≤◌, ◌^◌, OnOk, OnErr, length};
-ghost use Rattle.sx_tree.specs.Files.{is_directory, length_of, written_kind, bytes_of};
+//! What stands at an id of a tree: a directory or a file, with its facts.
+ghost use Rattle.std.specs.Prelude.{◌≡◌, ◌≤◌};
+ghost use Rattle.sx_tree.specs.declared.node.TheConstants.{GRANULES_LIMIT};
+ghost use Rattle.sx_tree.specs.Node.{directory_attributes, is_directory, kind_length, kind_use, root_facts};
 
-use sx_base::{Items, NoMemory};
+use std::alloc::Global;
+use sx_extent::Ranges;
+use sx_lease::FileLease;
+use sx_names::{Attributes, Content, Meta};
 
-/// A file's bytes.
+/// The most granules that a file has: those of 4 TiB.
+pub(crate) const GRANULES_LIMIT: u64 = 8_589_934_592;
+
+/// The facts of a node, which its place in the tree doesn't depend on.
+#[derive(Debug, Drop)]
+pub struct Facts {
+    /// The place in the history of the entry that changed it last, which is its ETag.
+    pub etag: u64,
+    /// The moment of its creation, in ticks of 100 ns since 1970.
+    pub created: u64,
+    /// The moment at which its bytes were written last, in ticks of 100 ns since 1970.
+    pub written: u64,
+    /// The moment at which it was changed last, in ticks of 100 ns since 1970.
+    pub changed: u64,
+    /// Its attributes of SMB.
+    pub attributes: Attributes,
+    /// Its metadata.
+    pub meta: Meta,
+    /// Whether it is to be deleted when the last open of it is closed.
+    pub pending: bool,
+    /// Its lease; a directory's is available.
+    pub lease: FileLease,
+}
+
+/// A file's bytes with their marks, and its content headers.
 #[derive(Debug, Drop)]
 pub struct FileBody {
-    pub bytes: Items<u8>,
+    /// The bytes, and which granules of them are marked.
+    pub ranges: Ranges,
+    /// The content headers.
+    pub content: Content,
 }
 
 /// What a node is.
 #[derive(Debug, Drop)]
 pub enum Kind {
+    /// A directory.
     Directory,
+    /// A file, with its body.
     File(FileBody),
 }
 
-/// A directory or file of a share: its id, the id of its directory (0 for the root) and its kind.
+/// A directory or file of a share.
 #[derive(Debug, Drop)]
 pub struct Node {
+    /// Its id, from 1.
     pub id: u64,
+    /// The id of its directory, and 0 for the root.
     pub parent: u64,
+    /// Its facts.
+    pub facts: Facts,
+    /// What it is.
     pub kind: Kind,
 }
 
@@ -29,10 +68,16 @@ pub struct Node {
 pub enum Found {
     /// The node of this id.
     Node(u64),
-    /// Nothing, but all of its parts but the last lead to the directory of this id.
-    Missing { parent: u64 },
-    /// Nothing: the first proper prefix that is no directory has so many parts.
-    NoParent { parts: u32 },
+    /// Nothing, but all of its parts but the last lead to a directory.
+    Missing {
+        /// The id of that directory.
+        parent: u64,
+    },
+    /// Nothing, since a proper prefix of it is no directory.
+    NoParent {
+        /// How many parts the shortest such prefix has.
+        parts: u32,
+    },
 }
 
 impl Kind {
@@ -46,39 +91,59 @@ impl Kind {
         }
     }
 
-    /// A file's length; a directory's is 0.
+    /// A file's length in bytes; a directory's is 0.
     pub fn length(&self) -> u64
-        ensures { result ≡ length_of self.now }
+        ensures { result ≡ kind_length self.now }
     {
         match self {
             Kind::Directory => 0,
-            Kind::File(body) => body.bytes.len() as u64,
+            Kind::File(body) => body.ranges.length(),
         }
     }
 
-    /// A file's bytes; a directory has none.
-    pub fn bytes(&self) -> &[u8]
-        ensures { result.now ≡ bytes_of self.now }
+    /// How many granules are marked in a file, and 0 for a directory.
+    pub fn used(&self) -> u64
+        ensures value { result ≡ kind_use self.now }
+        ensures limit { result ≤ GRANULES_LIMIT }
     {
         match self {
-            Kind::Directory => &[],
-            Kind::File(body) => body.bytes.as_slice(),
+            Kind::Directory => 0,
+            Kind::File(body) => body.ranges.used(),
         }
     }
+}
 
-    /// Writes bytes into a file, which is lengthened first where they reach past its end. A directory stays as it is.
-    pub fn write(&mut self, at: u64, bytes: &[u8]) -> Result<(), NoMemory>
-        requires { at + length bytes.now < 2 ^ 63 }
-        ensures ok { OnOk result (self.new ≡ written_kind at bytes.now self.old) }
-        ensures err { OnErr result (self.new ≡ self.old) }
+impl Facts {
+    /// The facts of the root of a share that was made at a moment by the entry at a place of the history.
+    pub(crate) fn root(alloc: Global, at: u64, place: u64) -> Facts
+        ensures { result ≡ root_facts at place }
     {
-        match self {
-            Kind::Directory => Ok(()),
-            Kind::File(body) => {
-                body.bytes.lengthen(at as usize + bytes.len())?;
-                body.bytes.overwrite(at as usize, bytes);
-                Ok(())
-            }
+        Facts {
+            etag: place,
+            created: at,
+            written: at,
+            changed: at,
+            attributes: directory_attributes(),
+            meta: Meta::new(alloc),
+            pending: false,
+            lease: FileLease::new(),
         }
+    }
+}
+
+/// The attributes of a directory that has no others.
+fn directory_attributes() -> Attributes
+    ensures { result ≡ directory_attributes }
+{
+    Attributes {
+        read_only: false,
+        hidden: false,
+        system: false,
+        archive: false,
+        temporary: false,
+        offline: false,
+        not_content_indexed: false,
+        no_scrub_data: false,
+        directory: true,
     }
 }

@@ -1,10 +1,45 @@
+//! Shares, with their snapshots.
 use crate::tree::Tree;
-use sx_names::{Quota, ShareName};
+use sx_base::Items;
+use sx_lease::ShareLease;
+use sx_names::{Meta, Quota, ShareName};
 
-/// A share: its name, its quota and its tree.
+/// What a snapshot keeps of a share.
+#[derive(Drop)]
+pub struct Snapshot {
+    /// The moment by which it is asked for, in ticks of 100 ns since 1970.
+    pub moment: u64,
+    /// The share's quota.
+    pub quota: Quota,
+    /// The metadata that was given with it, or else the share's.
+    pub meta: Meta,
+    /// The share's ETag: a place in the history.
+    pub etag: u64,
+    /// The moment at which the share was changed last, in ticks of 100 ns since 1970.
+    pub changed: u64,
+    /// The share's directories and files, no lease held and no deletion pending.
+    pub tree: Tree,
+}
+
+/// A share.
 #[derive(Drop)]
 pub struct Share {
+    /// Its name.
     pub name: ShareName,
+    /// How much of it may be marked.
     pub quota: Quota,
+    /// Its metadata.
+    pub meta: Meta,
+    /// The place in the history of the entry that changed it last, which is its ETag.
+    pub etag: u64,
+    /// The moment at which it was changed last, in ticks of 100 ns since 1970.
+    pub changed: u64,
+    /// Its lease.
+    pub lease: ShareLease,
+    /// Its directories and files.
     pub tree: Tree,
+    /// Its snapshots, in order of moment.
+    pub snapshots: Items<Snapshot>,
+    /// The moment last given to a snapshot of it, deleted ones included.
+    pub given: Option<u64>,
 }

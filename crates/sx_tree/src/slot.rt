@@ -1,31 +1,36 @@
-ghost use Rattle.std.specs.Prelude.{◌≡◌, ◌+◌, ◌<◌, ◌^◌, true, false, Some, OnOk, OnErr, length};
-ghost use Rattle.sx_tree.specs.Nodes.{child_of, with_child, written_slot};
+//! A node with its name and with the names below it.
+ghost use Rattle.std.specs.Prelude.{◌≡◌, true, false, Some, OnOk, OnErr};
+ghost use Rattle.std.specs.Borrow.{sem};
+ghost use Rattle.sx_tree.specs.Body.{body_after};
+ghost use Rattle.sx_tree.specs.LentFacts.{LendsFactsOf};
+ghost use Rattle.sx_tree.specs.Tree.{body_changed, child_of, with_child, without_child};
 
-use crate::node::Node;
+use crate::body::BodyChange;
+use crate::node::{Facts, Node};
 use std::collections::BTreeMap;
 use std::marker::Model;
-use sx_base::NoMemory;
+use sx_memory::NoMemory;
 use sx_names::{Folded, Part};
 
 /// A node with its name, which the root has not, and in a directory the ids below it by their folded names.
 #[derive(Drop)]
-pub struct Held {
-    pub node: Node,
-    pub name: Option<Part>,
-    pub below: BTreeMap<Folded, u64>,
+pub(crate) struct NodeSlot {
+    pub(crate) node: Node,
+    pub(crate) name: Option<Part>,
+    pub(crate) below: BTreeMap<Folded, u64>,
 }
 
-impl Model for Held {
-    ghost use Rattle.sx_tree.specs.Nodes.{Slot};
+impl Model for NodeSlot {
+    ghost use Rattle.sx_tree.specs.Tree.{Slot};
 
     ghost Value = { Slot };
 
-    ghost view = { λ h. record { node = h.node; name = h.name; below = h.below.entries } };
+    ghost view = { λ s. record { node = s.node; name = s.name; below = s.below.entries } };
 }
 
-impl Held {
-    /// The id under a folded name, if this is a directory that has one.
-    pub fn child(&self, name: &Folded) -> Option<Option<u64>>
+impl NodeSlot {
+    /// None where this is no directory, and in a directory the id under a folded name, if there is one.
+    pub(crate) fn child(&self, name: &Folded) -> Option<Option<u64>>
         ensures { result ≡ child_of (Some self.now) name.now }
     {
         if !self.node.kind.is_directory() {
@@ -35,19 +40,33 @@ impl Held {
     }
 
     /// Adds a name. It says whether there was memory for it.
-    pub fn add(&mut self, name: Folded, id: u64) -> bool
+    pub(crate) fn add(&mut self, name: Folded, id: u64) -> bool
         ensures done { result ≡ true → self.new ≡ with_child name id self.old }
         ensures full { result ≡ false → self.new ≡ self.old }
     {
         self.below.insert(name, id).is_ok()
     }
 
-    /// Writes bytes into the node.
-    pub fn write(&mut self, at: u64, bytes: &[u8]) -> Result<(), NoMemory>
-        requires { at + length bytes.now < 2 ^ 63 }
-        ensures ok { OnOk result (self.new ≡ written_slot at bytes.now self.old) }
+    /// Takes a name out.
+    pub(crate) fn remove(&mut self, name: &Folded)
+        ensures { self.new ≡ without_child name.now self.old }
+    {
+        self.below.remove(name);
+    }
+
+    /// The facts of the node, to be changed.
+    pub(crate) fn facts_mut(&mut self) -> &mut Facts
+        ensures* writes_back { sem 𝓛 (LendsFactsOf self.entry result) }
+        ensures value { result.now ≡ self.old.node.facts }
+    {
+        &mut self.node.facts
+    }
+
+    /// Changes the body of a file. A directory stays as it is.
+    pub(crate) fn change(&mut self, change: BodyChange) -> Result<(), NoMemory>
+        ensures ok { OnOk result (self.new ≡ body_changed (body_after change) self.old) }
         ensures err { OnErr result (self.new ≡ self.old) }
     {
-        self.node.kind.write(at, bytes)
+        self.node.kind.change(change)
     }
 }

@@ -1,8 +1,10 @@
 -- What the steps of one call tell together.
 use Rattle.std.proofs.Common.{◌≡◌, inl, ℕ, ◌<◌, ◌≤◌, true, false, List, [], ◌∷◌, refl, ap, sym, ◌∙◌, subst, arith, Option, Some, None}
+use Rattle.std.specs.List.{AllByRecursion}
 use Rattle.atomic_table.specs.Table.{Me, rest}
+use Rattle.sx_turn.specs.declared.seat.TheConstants.{MAX_SEATS}
 use Rattle.sx_turn.specs.declared.rule.View.{View}
-use Rattle.sx_turn.specs.Places.{Each, once_below}
+use Rattle.sx_turn.specs.Places.{once_below}
 use Rattle.sx_turn.specs.Views.{times_owned, owned_count, with_ticket, in_turn, with_count, with_number, newcomer, after_next, after_turn, with_closed, enrolled_view, Extends}
 use Rattle.sx_turn.specs.Moves.{TurnBegins, MayEnd, TurnEnds, TakenOut, IsClosed, StillOut, CallersCounted, CountedInTurn, NumberDrawn}
 use Rattle.sx_turn.proofs.Places.{grown_same}
@@ -34,7 +36,7 @@ module _ {B E : Type 0} (stands : B → List E) (lasts : B → ℕ) (who : E →
   count_may_end m c n k = (k.0, stands k.0, ap (λ (z : M). z.1) k.2, ap (λ (z : M). z.0.turn) k.2, ap (λ (z : M). z.0.closed) k.2, (ap (λ (z : M). z.0.lasting) k.2 ∙ k.11, inl refl))
 
   -- the moves of a number drawn: counted, drawn, and the turn ended
-  pub enrol_call : (m c d e : M) (n r : ℕ) → m ≡ (newcomer m.0.lasting m.0.seen m.0.known, []) → CountedInTurn stands lasts who m n c → d ≡ (with_number r c.0, c.1) → r ≡ n → n < 64 → TurnEnds stands d e → NumberDrawn who m.0 n e
+  pub enrol_call : (m c d e : M) (n r : ℕ) → m ≡ (newcomer m.0.lasting m.0.seen m.0.known, []) → CountedInTurn stands lasts who m n c → d ≡ (with_number r c.0, c.1) → r ≡ n → n < MAX_SEATS → TurnEnds stands d e → NumberDrawn who m.0 n e
   enrol_call m c d e n r fresh k did same room left = let y : B = k.0 in
       let is : d ≡ (with_number n (with_count n (in_turn (stands y) (with_ticket k.1 (newcomer m.0.lasting m.0.seen m.0.known)))), (0, Some y) ∷ []) =
       did ∙ (ap (λ (x : ℕ × M). let q : M = (with_number x.0 x.1.0, x.1.1) in q) (λ j. (same j, k.2 j)) ∙ ap (λ (z : M). let q : M = (with_number n (with_count n (in_turn (stands y) (with_ticket k.1 z.0))), (0, Some y) ∷ []) in q) fresh) in
@@ -50,7 +52,7 @@ module _ {B E : Type 0} (stands : B → List E) (lasts : B → ℕ) (who : E →
       )
 
   -- the moves where no number was left: counted, and the turn ended
-  pub refuse_call : (m c e : M) (n : ℕ) → m ≡ (newcomer m.0.lasting m.0.seen m.0.known, []) → CountedInTurn stands lasts who m n c → 64 ≤ n → TurnEnds stands c e → NumberDrawn who m.0 n e
+  pub refuse_call : (m c e : M) (n : ℕ) → m ≡ (newcomer m.0.lasting m.0.seen m.0.known, []) → CountedInTurn stands lasts who m n c → MAX_SEATS ≤ n → TurnEnds stands c e → NumberDrawn who m.0 n e
   refuse_call m c e n fresh k full left = let y : B = k.0 in
       let is : c ≡ (with_count n (in_turn (stands y) (with_ticket k.1 (newcomer m.0.lasting m.0.seen m.0.known))), (0, Some y) ∷ []) = k.2 ∙ ap (λ (z : M). let q : M = (with_count n (in_turn (stands y) (with_ticket k.1 z.0)), (0, Some y) ∷ []) in q) fresh in
       let gone : e ≡ (after_next (stands y) c.0, []) = left y (ap (λ (z : M). z.1) is) in (
@@ -73,7 +75,7 @@ module _ {B E : Type 0} (stands : B → List E) (lasts : B → ℕ) (who : E →
   in_hand [] = None
   in_hand (x ∷ xs) = x.1
 
-  -- the moves of a close: counted, the value taken out, and the slot brought home empty
+  -- the moves of a close: counted, the value taken out, and the slot returned empty
   pub close_call : (m c e d : M) (n owns : ℕ) (v : B) → CountedInTurn stands lasts who m n c → owns ≡ owned_count m.0 → n ≤ owns → c.1 ≡ (0, Some v) ∷ rest c.1 → e ≡ (c.0, (0, None) ∷ rest c.1) → d ≡ (with_closed e.0, [])
       → TakenOut stands lasts who m.0 v × IsClosed d
   close_call m c e d n owns v k own all took left emptied = let y : B = k.0 in
@@ -86,7 +88,7 @@ module _ {B E : Type 0} (stands : B → List E) (lasts : B → ℕ) (who : E →
           sym (ap stands same) ∙ sym r.0,
           (
             refl,
-            subst (λ (l : List E). Each (λ e. times_owned (who e) m.0 ≡ 1) l) (sym r.0) r.1,
+            subst (λ (l : List E). AllByRecursion (λ e. times_owned (who e) m.0 ≡ 1) l) (sym r.0) r.1,
             r.2,
             subst (λ (z : ℕ). (i : ℕ) → times_owned i m.0 ≡ once_below i z) count r.3,
           ),

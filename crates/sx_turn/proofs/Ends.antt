@@ -1,5 +1,6 @@
 -- The rule holds as a turn begins, and what it says once the turn is closed.
 use Rattle.std.proofs.Common.{◌≡◌, inl, inr, ⊎_elim, ℕ, zero, suc, ◌+◌, ◌<◌, ◌==◌, Bool, true, false, List, [], ◌∷◌, set, refl, ap, sym, ◌∙◌, subst, if◌then◌else◌, arith, Option, Some, None}
+use Rattle.std.specs.List.{AllByRecursion}
 use lib.Seq.{set-get_or}
 use mathlib.Core.Option.{some, none, some-injective, some-ne-none}
 use mathlib.Core.Option as maybe
@@ -8,9 +9,9 @@ use Rattle.std.proofs.lemmas.Bool.Decides.{nat_tests}
 use Rattle.atomic_table.specs.Table.{State, Me, step, gives, put_back, rest, Allows, opening, Final, Seen}
 use Rattle.atomic_table.proofs.Lists.{set_here}
 use Rattle.sx_turn.specs.declared.rule.View.{View}
-use Rattle.sx_turn.specs.Places.{once_below, Each}
+use Rattle.sx_turn.specs.Places.{once_below}
 use Rattle.sx_turn.specs.Views.{first_view, with_closed}
-use Rattle.sx_turn.specs.Rules.{Fits, AtHome, IsOut, Holds, Kept, slot_content}
+use Rattle.sx_turn.specs.Rules.{Fits, IsInSlot, IsOut, Holds, Kept, slot_content}
 use Rattle.sx_turn.specs.Moves.{CloseTells}
 use Rattle.sx_turn.proofs.Lists.{each_map, inside, prefix_self}
 use Rattle.sx_turn.proofs.Reseat.{is_out, reseat, whole_stays}
@@ -27,11 +28,11 @@ module _ {B E : Type 0} (stands : B → List E) (lasts : B → ℕ) (fixed : ℕ
   H = Holds stands lasts fixed who
 
   -- entries of number 0 are below 1
-  pub zero_below : (log : List E) → Each (λ e. who e ≡ 0) log → Each (λ e. who e < 1) log
+  pub zero_below : (log : List E) → AllByRecursion (λ e. who e ≡ 0) log → AllByRecursion (λ e. who e < 1) log
   zero_below log own = each_map _ _ (λ e z. omega arith) log own
 
   -- the rule holds as a turn begins
-  pub begin_keeps : (y : B) → Each (λ e. who e ≡ 0) (stands y) → Kept stands lasts (lasts y) who (opening (0 ∷ 0 ∷ 1 ∷ []) (Some y ∷ []) (first_view who (lasts y) (stands y)))
+  pub begin_keeps : (y : B) → AllByRecursion (λ e. who e ≡ 0) (stands y) → Kept stands lasts (lasts y) who (opening (0 ∷ 0 ∷ 1 ∷ []) (Some y ∷ []) (first_view who (lasts y) (stands y)))
   begin_keeps y own = let log : List E = stands y in let v : V = first_view who (lasts y) log in (
     0,
     0,
@@ -50,7 +51,7 @@ module _ {B E : Type 0} (stands : B → List E) (lasts : B → ℕ) (fixed : ℕ
       });
       apart = (λ i j x w t ei ej ti tj. apart_one i j x w t ei ej ti);
       waiting = refl;
-      numbers = (λ n. zero_once n);
+      numbers = (λ n. let z = zero_once n in omega arith);
       shared = refl;
       small = omega arith;
       bound = (omega arith, omega arith);
@@ -122,7 +123,7 @@ module _ {B E : Type 0} (stands : B → List E) (lasts : B → ℕ) (fixed : ℕ
   closed_empty ws xs id v log is_closed turn f =
       let s : State S V = f.0 in let k = f.1.0 in let at = f.1.1 in let h = k.5 in
       let is = ((h.each id v at).queue.turn log turn).1 in let turn' : v.turn ≡ Some k.3 = turn ∙ ap (λ (l : List E). Some l) is in
-      let home : s.homes ≡ some None ∷ [] = ⊎_elim (λ (home : AtHome stands lasts fixed who k.3 s.homes s.views). absurd (cc (turn', home.3 id v at)))
+      let home : s.homes ≡ some None ∷ [] = ⊎_elim (λ (home : IsInSlot stands lasts fixed who k.3 s.homes s.views). absurd (cc (turn', home.3 id v at)))
       (λ (out : IsOut stands lasts fixed who k.3 s.homes s.views).
       let here : out.0 ≡ id = h.apart out.0 id out.1 v k.1 out.2 at ((h.each out.0 out.1 out.2).queue.turn k.3 out.3).0 ((h.each id v at).queue.turn log turn).0 in
       let same : out.1 ≡ v = some-injective out.1 v (sym out.2 ∙ (ap (get_elem? s.views) here ∙ at)) in

@@ -1,48 +1,45 @@
 -- Sums over lists, facts on each item, and beginnings of lists.
 use Rattle.std.proofs.Common.{◌≡◌, ◌≢◌, ◌⊎◌, ⊎_elim, ℕ, zero, suc, ◌+◌, ◌<◌, ◌≤◌, ltb, Bool, true, false, List, [], ◌∷◌, ◌++◌, length, set, refl, ap, sym, ◌∙◌, length-append, if◌then◌else◌, arith, Option, Some, None, append_assoc, append-nil}
+use Rattle.std.specs.List.{AllByRecursion, sum_by}
 use mathlib.Core.Option.{some, some-injective, some-ne-none}
 use mathlib.Core.List.{IsPrefix}
 use lib.ListN.{get_elem?}
-use Rattle.sx_turn.specs.Places.{total, Each, longer}
+use Rattle.sx_turn.specs.Places.{longer}
 use Rattle.std.proofs.lemmas.Bool.Decides.{nat_tests}
+use Rattle.std.proofs.lemmas.List.Sums.{sum_by-cons}
 use Rattle.atomic_table.specs.Table.{rest}
 
 module _ {A : Type 0} (f : A → ℕ) where
   -- the sum after one item is set
-  pub total_set : (l : List A) (i : ℕ) (v w : A) → get_elem? l i ≡ some v → total f (set l i w) + f v ≡ total f l + f w
-  total_set [] i v w e = absurd (some-ne-none v (sym e))
-  total_set (x ∷ xs) zero v w e = let k : f x ≡ f v = ap f (some-injective x v e) in omega arith
-  total_set (x ∷ xs) (suc i) v w e = let h = total_set xs i v w e in omega arith
-
-  -- the sum with one item more
-  pub total_snoc : (l : List A) (w : A) → total f (l ++ w ∷ []) ≡ total f l + f w
-  total_snoc [] w = omega arith
-  total_snoc (x ∷ xs) w = let h = total_snoc xs w in omega arith
+  pub sum_by_set : (l : List A) (i : ℕ) (v w : A) → get_elem? l i ≡ some v → sum_by f (set l i w) + f v ≡ sum_by f l + f w
+  sum_by_set [] i v w e = absurd (some-ne-none v (sym e))
+  sum_by_set (x ∷ xs) zero v w e = let k : f x ≡ f v = ap f (some-injective x v e) in omega (arith, sum_by-cons f x xs, sum_by-cons f w xs)
+  sum_by_set (x ∷ xs) (suc i) v w e = let h = sum_by_set xs i v w e in omega (arith, sum_by-cons f x xs, sum_by-cons f x (set xs i w))
 
   -- an item weighs at most the sum
-  pub total_at : (l : List A) (i : ℕ) (v : A) → get_elem? l i ≡ some v → f v ≤ total f l
-  total_at [] i v e = absurd (some-ne-none v (sym e))
-  total_at (x ∷ xs) zero v e = let k : f x ≡ f v = ap f (some-injective x v e) in omega arith
-  total_at (x ∷ xs) (suc i) v e = let h = total_at xs i v e in omega arith
+  pub sum_by_at : (l : List A) (i : ℕ) (v : A) → get_elem? l i ≡ some v → f v ≤ sum_by f l
+  sum_by_at [] i v e = absurd (some-ne-none v (sym e))
+  sum_by_at (x ∷ xs) zero v e = let k : f x ≡ f v = ap f (some-injective x v e) in omega (arith, sum_by-cons f x xs)
+  sum_by_at (x ∷ xs) (suc i) v e = let h = sum_by_at xs i v e in omega (arith, sum_by-cons f x xs)
 
   -- where no item weighs anything, the sum is 0
-  pub total_none : (l : List A) → ((j : ℕ) (u : A) → get_elem? l j ≡ some u → f u ≡ 0) → total f l ≡ 0
-  total_none [] z = refl
-  total_none (x ∷ xs) z = let h = total_none xs (λ j u e. z (suc j) u e) in let k : f x ≡ 0 = z zero x refl in omega arith
+  pub sum_by_none : (l : List A) → ((j : ℕ) (u : A) → get_elem? l j ≡ some u → f u ≡ 0) → sum_by f l ≡ 0
+  sum_by_none [] z = refl
+  sum_by_none (x ∷ xs) z = let h = sum_by_none xs (λ j u e. z (suc j) u e) in let k : f x ≡ 0 = z zero x refl in omega (arith, sum_by-cons f x xs)
 
   -- where the others weigh nothing, the sum is the one's weight
-  pub total_only : (l : List A) (i : ℕ) (v : A) → get_elem? l i ≡ some v → ((j : ℕ) (u : A) → j ≢ i → get_elem? l j ≡ some u → f u ≡ 0) → total f l ≡ f v
-  total_only [] i v e z = absurd (some-ne-none v (sym e))
-  total_only (x ∷ xs) zero v e z = let k : f x ≡ f v = ap f (some-injective x v e) in let h = total_none xs (λ j u e. z (suc j) u (λ q. absurd (omega (arith, q))) e) in omega arith
-  total_only (x ∷ xs) (suc i) v e z = let k : f x ≡ 0 = z zero x (λ q. absurd (omega (arith, q))) refl in let h = total_only xs i v e (λ j u ne e. z (suc j) u (λ q. ne (omega (arith, q))) e) in omega arith
+  pub sum_by_only : (l : List A) (i : ℕ) (v : A) → get_elem? l i ≡ some v → ((j : ℕ) (u : A) → j ≢ i → get_elem? l j ≡ some u → f u ≡ 0) → sum_by f l ≡ f v
+  sum_by_only [] i v e z = absurd (some-ne-none v (sym e))
+  sum_by_only (x ∷ xs) zero v e z = let k : f x ≡ f v = ap f (some-injective x v e) in let h = sum_by_none xs (λ j u e. z (suc j) u (λ q. absurd (omega (arith, q))) e) in omega (arith, sum_by-cons f x xs)
+  sum_by_only (x ∷ xs) (suc i) v e z = let k : f x ≡ 0 = z zero x (λ q. absurd (omega (arith, q))) refl in let h = sum_by_only xs i v e (λ j u ne e. z (suc j) u (λ q. ne (omega (arith, q))) e) in omega (arith, sum_by-cons f x xs)
 
   -- two items weigh at most the sum
-  pub total_two : (l : List A) (i j : ℕ) (v w : A) → i ≢ j → get_elem? l i ≡ some v → get_elem? l j ≡ some w → f v + f w ≤ total f l
-  total_two [] i j v w n e d = absurd (some-ne-none v (sym e))
-  total_two (x ∷ xs) zero zero v w n e d = absurd (n refl)
-  total_two (x ∷ xs) zero (suc j) v w n e d = let k : f x ≡ f v = ap f (some-injective x v e) in let h = total_at xs j w d in omega arith
-  total_two (x ∷ xs) (suc i) zero v w n e d = let k : f x ≡ f w = ap f (some-injective x w d) in let h = total_at xs i v e in omega arith
-  total_two (x ∷ xs) (suc i) (suc j) v w n e d = let h = total_two xs i j v w (λ q. n (ap suc q)) e d in omega arith
+  pub sum_by_two : (l : List A) (i j : ℕ) (v w : A) → i ≢ j → get_elem? l i ≡ some v → get_elem? l j ≡ some w → f v + f w ≤ sum_by f l
+  sum_by_two [] i j v w n e d = absurd (some-ne-none v (sym e))
+  sum_by_two (x ∷ xs) zero zero v w n e d = absurd (n refl)
+  sum_by_two (x ∷ xs) zero (suc j) v w n e d = let k : f x ≡ f v = ap f (some-injective x v e) in let h = sum_by_at xs j w d in omega (arith, sum_by-cons f x xs)
+  sum_by_two (x ∷ xs) (suc i) zero v w n e d = let k : f x ≡ f w = ap f (some-injective x w d) in let h = sum_by_at xs i v e in omega (arith, sum_by-cons f x xs)
+  sum_by_two (x ∷ xs) (suc i) (suc j) v w n e d = let h = sum_by_two xs i j v w (λ q. n (ap suc q)) e d in omega (arith, sum_by-cons f x xs)
 
 module _ {A : Type 0} where
   -- where there is an item, the list is longer
@@ -60,12 +57,12 @@ module _ {A : Type 0} where
   prefix_more xs ys rest p = (p.0 ++ rest, sym (append_assoc xs p.0 rest) ∙ ap (λ w. w ++ rest) p.1)
 
   -- what holds of each item has its consequences for each
-  pub each_map : (P Q : A → Type 0) → ((x : A) → P x → Q x) → (xs : List A) → Each P xs → Each Q xs
+  pub each_map : (P Q : A → Type 0) → ((x : A) → P x → Q x) → (xs : List A) → AllByRecursion P xs → AllByRecursion Q xs
   each_map P Q f [] e = tt
   each_map P Q f (x ∷ xs) e = (f x e.0, each_map P Q f xs e.1)
 
   -- what holds of each item and of one more
-  pub each_snoc : (P : A → Type 0) (xs : List A) (x : A) → Each P xs → P x → Each P (xs ++ x ∷ [])
+  pub each_snoc : (P : A → Type 0) (xs : List A) (x : A) → AllByRecursion P xs → P x → AllByRecursion P (xs ++ x ∷ [])
   each_snoc P [] x e p = (p, tt)
   each_snoc P (y ∷ ys) x e p = (e.0, each_snoc P ys x e.1 p)
 
@@ -97,12 +94,12 @@ module _ {A : Type 0} where
   none_left (x ∷ xs) ys e = none_left xs ys (omega arith)
 
   -- what holds of each item of two lists
-  pub each_append : (P : A → Type 0) (xs ys : List A) → Each P xs → Each P ys → Each P (xs ++ ys)
+  pub each_append : (P : A → Type 0) (xs ys : List A) → AllByRecursion P xs → AllByRecursion P ys → AllByRecursion P (xs ++ ys)
   each_append P [] ys e f = f
   each_append P (x ∷ xs) ys e f = (e.0, each_append P xs ys e.1 f)
 
   -- what holds of each item of two lists holds in the first
-  pub each_first : (P : A → Type 0) (xs ys : List A) → Each P (xs ++ ys) → Each P xs
+  pub each_first : (P : A → Type 0) (xs ys : List A) → AllByRecursion P (xs ++ ys) → AllByRecursion P xs
   each_first P [] ys e = tt
   each_first P (x ∷ xs) ys e = (e.0, each_first P xs ys e.1)
 

@@ -1,9 +1,10 @@
 -- The places of a caller's entries, and how often a number stands among pairs.
 use Rattle.std.proofs.Common.{◌≡◌, ◌≢◌, ℕ, suc, ◌+◌, ◌<◌, ◌≤◌, ◌==◌, ltb, Bool, true, false, List, [], ◌∷◌, ◌++◌, length, refl, ap, sym, ◌∙◌, length-append, if◌then◌else◌, eq-eqb, ne_eqb, arith, Option, Some, append_assoc, append-nil}
+use Rattle.std.specs.List.{AllByRecursion}
 use mathlib.Core.Logic.{dite}
 use native.Mathlib.Decide.{ℕ_discrete}
 use mathlib.Core.List.{IsPrefix}
-use Rattle.sx_turn.specs.Places.{places_from, places, times, Each, once_below, places_grown}
+use Rattle.sx_turn.specs.Places.{places_from, places, times, once_below, places_grown}
 use Rattle.std.proofs.lemmas.Bool.Decides.{nat_tests}
 use Rattle.sx_turn.proofs.Lists.{each_map, none_left}
 
@@ -79,7 +80,7 @@ module _ {E : Type 0} (who : E → ℕ) (n : ℕ) where
       sym (bl ∙ (ap (λ (l : List ℕ). places who n b ++ l) none_y ∙ append-nil (places who n b)))
 
   -- a number above all entries has no places
-  pub places_none : (k : ℕ) (log : List E) → Each (λ e. who e < n) log → places_from who n k log ≡ []
+  pub places_none : (k : ℕ) (log : List E) → AllByRecursion (λ e. who e < n) log → places_from who n k log ≡ []
   places_none k [] e = refl
   places_none k (x ∷ xs) e = let l = e.0 in ap (λ (b : Bool). (if b then k ∷ [] else []) ++ places_from who n (k + 1) xs) (ne_eqb n (who x) (λ q. omega arith)) ∙ places_none (k + 1) xs e.1
 
@@ -105,12 +106,12 @@ module _ {E : Type 0} (who : E → ℕ) (n : ℕ) where
 module _ {E : Type 0} (who : E → ℕ) where
   -- the pairs stay exact where a number that is none of theirs gains an entry
   pub pairs_other : (log seen : List E) (e : E) (ps : List (ℕ × List ℕ)) → times (who e) ps ≡ 0
-      → Each (λ p. (p.1 ≡ places who p.0 log) × (p.1 ≡ places who p.0 seen)) ps → Each (λ p. (p.1 ≡ places who p.0 (log ++ e ∷ [])) × (p.1 ≡ places who p.0 seen)) ps
+      → AllByRecursion (λ p. (p.1 ≡ places who p.0 log) × (p.1 ≡ places who p.0 seen)) ps → AllByRecursion (λ p. (p.1 ≡ places who p.0 (log ++ e ∷ [])) × (p.1 ≡ places who p.0 seen)) ps
   pairs_other log seen e [] z f = tt
   pairs_other log seen e (p ∷ ps) z f = let t = times_none (who e) p.0 p.1 ps z in
       ((f.0.0 ∙ sym (places_other who p.0 log e t.0), f.0.1), pairs_other log seen e ps t.1 f.1)
 
   -- pairs that are exact in the whole list and in a beginning are exact in any beginning between
   pub pairs_longer : (log seen more : List E) → IsPrefix seen more → IsPrefix more log → (ps : List (ℕ × List ℕ))
-      → Each (λ p. (p.1 ≡ places who p.0 log) × (p.1 ≡ places who p.0 seen)) ps → Each (λ p. (p.1 ≡ places who p.0 log) × (p.1 ≡ places who p.0 more)) ps
+      → AllByRecursion (λ p. (p.1 ≡ places who p.0 log) × (p.1 ≡ places who p.0 seen)) ps → AllByRecursion (λ p. (p.1 ≡ places who p.0 log) × (p.1 ≡ places who p.0 more)) ps
   pairs_longer log seen more p q ps e = each_map _ _ (λ x f. (f.0, f.0 ∙ sym (places_between who x.0 seen more log p q (sym f.1 ∙ f.0)))) ps e

@@ -1,5 +1,6 @@
 -- Draw, look and next keep the rule.
 use Rattle.std.proofs.Common.{◌≡◌, ◌≢◌, inl, inr, ⊎_elim, ℕ, ◌+◌, ◌%◌, ◌^◌, ◌<◌, eqb, Bool, false, List, [], ◌∷◌, ◌++◌, length, get_or, set, refl, ap, sym, ◌∙◌, subst, mod-eq_of_lt, if◌then◌else◌, eq-eqb, arith, Option, Some, None}
+use Rattle.std.specs.List.{AllByRecursion}
 use lib.Seq.{set-get_or}
 use mathlib.Core.Option.{some, none, some-injective, some-ne-none}
 use mathlib.Core.Option as maybe
@@ -11,11 +12,11 @@ use prog.Atomic.{either}
 use Rattle.atomic_table.specs.Table.{Me, Act, step, keeps, takes, gives, stepped, Valid, carried_after, put_back, rest, Allows}
 use Rattle.atomic_table.proofs.Lists.{set_here, set_else, exchanged}
 use Rattle.sx_turn.specs.declared.rule.View.{View}
-use Rattle.sx_turn.specs.Places.{places, times, once_below, Each, places_grown}
+use Rattle.sx_turn.specs.Places.{places, times, once_below, places_grown}
 use Rattle.sx_turn.specs.Views.{owned_pairs, ticket_count, times_owned, pairs_with, with_ticket, in_turn, one_if, after_turn}
-use Rattle.sx_turn.specs.Rules.{AtHome, IsOut, Holds, Kept}
+use Rattle.sx_turn.specs.Rules.{IsInSlot, IsOut, Holds, Kept}
 use Rattle.sx_turn.specs.Moves.{MayEndWith, DrawTells, LookTells, NextTells}
-use Rattle.sx_turn.proofs.Lists.{each_map, each_snoc, inside, prefix_more, prefix_self, total_at, total_two}
+use Rattle.sx_turn.proofs.Lists.{each_map, each_snoc, inside, prefix_more, prefix_self, sum_by_at, sum_by_two}
 use Rattle.sx_turn.proofs.Places.{grown_more, grown_same, once_in, once_one}
 use Rattle.sx_turn.proofs.Reseat.{is_out, others_idle, reseat, unmoved, value_stays, whole_stays}
 use Rattle.sx_turn.proofs.Views.{each_set, idle_queue, others_stay, others_grown, pairs_own, ticket_is, uncounted}
@@ -79,7 +80,7 @@ module _ {B E : Type 0} (stands : B → List E) (lasts : B → ℕ) (fixed : ℕ
 
   -- the rule holds after the value has come to the seat whose ticket is served
   pub look_holds : (a b c : ℕ) (log : List E) (homes : List (maybe.Option S)) (vs : List V) (id : ℕ) (v : V) → get_elem? vs id ≡ some v → v.ticket ≡ Some b → H a b c log homes vs
-      → AtHome stands lasts fixed who log homes vs → H a b c log (none ∷ []) (set vs id (in_turn log v))
+      → IsInSlot stands lasts fixed who log homes vs → H a b c log (none ∷ []) (set vs id (in_turn log v))
   look_holds a b c log homes vs id v at served h home = let f = h.each id v at in let w : V = in_turn log v in
       reseat stands lasts fixed who a b c a b c log log homes (none ∷ []) vs id v w at h record {
         fits = record {
@@ -112,7 +113,7 @@ module _ {B E : Type 0} (stands : B → List E) (lasts : B → ℕ) (fixed : ℕ
       let n : ℕ = get_or s.words 1 0 in let now : n ≡ k.1 = ap (λ (ws : List ℕ). get_or ws 1 0) k.4 in let h = k.5 in
       ⊎_elim
       (λ (hit : me.0.ticket ≡ Some n). let served : me.0.ticket ≡ Some k.1 = hit ∙ ap (λ (z : ℕ). Some z) now in ⊎_elim
-      (λ (home : AtHome stands lasts fixed who k.3 s.homes s.views). (
+      (λ (home : IsInSlot stands lasts fixed who k.3 s.homes s.views). (
         in_turn (stands home.0) me.0,
         takes 0 (Some home.0),
         ap (λ (hs : List (maybe.Option S)). get_elem? hs 0) home.1,
@@ -124,7 +125,7 @@ module _ {B E : Type 0} (stands : B → List E) (lasts : B → ℕ) (fixed : ℕ
           set-get_or s.words 1 0 ∙ k.4,
           subst (λ (x : List (maybe.Option S) × List E). H k.0 k.1 k.2 k.3 x.0 (set s.views id (in_turn x.1 me.0))) (λ j. (set (sym home.1 j) 0 none, sym home.2 j)) (look_holds k.0 k.1 k.2 k.3 s.homes s.views id me.0 at served h home),
         ),
-        ((λ _. (home.0, refl, (subst (λ (l : List E). IsPrefix me.0.seen l) (sym home.2) (h.each id me.0 at).history.seen, subst (λ (l : List E). Each (λ p. p.1 ≡ places who p.0 l) (owned_pairs me.0)) (sym home.2) (each_map _ _ (λ p q. q.0) (owned_pairs me.0) (h.each id me.0 at).history.exact), each_map _ _ (λ p q. q.1) (owned_pairs me.0) (h.each id me.0 at).history.exact), λ l e. home.4 ∙ sym (h.lasting id me.0 l at e))), λ miss. absurd (miss hit)),
+        ((λ _. (home.0, refl, (subst (λ (l : List E). IsPrefix me.0.seen l) (sym home.2) (h.each id me.0 at).history.seen, subst (λ (l : List E). AllByRecursion (λ p. p.1 ≡ places who p.0 l) (owned_pairs me.0)) (sym home.2) (each_map _ _ (λ p q. q.0) (owned_pairs me.0) (h.each id me.0 at).history.exact), each_map _ _ (λ p q. q.1) (owned_pairs me.0) (h.each id me.0 at).history.exact), λ l e. home.4 ∙ sym (h.lasting id me.0 l at e))), λ miss. absurd (miss hit)),
       ))
       (λ (out : IsOut stands lasts fixed who k.3 s.homes s.views).
       let it = out in let its = (h.each it.0 it.1 it.2).queue.turn k.3 it.3 in
@@ -172,7 +173,7 @@ module _ {B E : Type 0} (stands : B → List E) (lasts : B → ℕ) (fixed : ℕ
       let f = h.each id v at in let served : v.ticket ≡ Some b = (f.queue.turn log turn).0 in let log' : List E = log ++ e ∷ [] in let w : V = after_turn log' (v.mine ++ (length log + 1) ∷ []) v in
       let idle = others_idle stands lasts fixed who a b c log homes vs id v at served h in let one : ticket_count v ≡ 1 = ap one_if served in
       let mine_is : times_owned (who e) v ≡ 1 + times (who e) v.ended = ap (λ (o : Option ℕ). times (who e) (pairs_with o v.mine v.ended)) num ∙ ap (λ (t : Bool). (if t then 1 else 0) + times (who e) v.ended) (eq-eqb (who e) (who e) refl) in
-      let all = h.numbers (who e) in let most = once_one (who e) c in let share = total_at (times_owned (who e)) vs id v at in
+      let all = h.numbers (who e) in let most = once_one (who e) c in let share = sum_by_at (times_owned (who e)) vs id v at in
       let below : who e < c = once_in (who e) c (omega arith) in
       let mine_once : times_owned (who e) w ≡ times_owned (who e) v = ap (λ (o : Option ℕ). times (who e) (pairs_with o w.mine v.ended)) num ∙ ap (λ (o : Option ℕ). times (who e) (pairs_with o v.mine v.ended)) (sym num) in
       reseat stands lasts fixed who a b c a (b + 1) c log log' homes (some (Some y) ∷ []) vs id v w at h record {
@@ -185,7 +186,7 @@ module _ {B E : Type 0} (stands : B → List E) (lasts : B → ℕ) (fixed : ℕ
           queue = idle_queue _ _ log';
           count = uncounted f.count.known;
         };
-        others = (λ j u ne q g. let i = idle j u ne q in let two = total_two (times_owned (who e)) vs id j v u (λ z. ne (sym z)) at q in others_grown who a b c log e u i.0 i.1 (omega arith) g);
+        others = (λ j u ne q g. let i = idle j u ne q in let two = sum_by_two (times_owned (who e)) vs id j v u (λ z. ne (sym z)) at q in others_grown who a b c log e u i.0 i.1 (omega arith) g);
         fresh = (λ t j u q. absurd (cc q));
         waiting = (omega arith);
         numbers = (λ n. ap (λ (k : ℕ). once_below n c + k) (ap (λ (o : Option ℕ). times n (pairs_with o v.mine v.ended)) num ∙ ap (λ (o : Option ℕ). times n (pairs_with o w.mine v.ended)) (sym num)));

@@ -1,5 +1,6 @@
 -- A move that sets one view keeps the rule, where what it changes fits.
 use Rattle.std.proofs.Common.{◌≡◌, ◌≢◌, ◌⊎◌, inl, inr, ⊎_elim, ℕ, ◌+◌, ◌^◌, ◌<◌, ◌≤◌, Bool, false, List, [], ◌∷◌, get_or, set, ap, sym, ◌∙◌, subst, arith, Option, Some, None}
+use Rattle.std.specs.List.{AllByRecursion}
 use lib.Seq.{set-get_or}
 use mathlib.Core.Option.{some, none, some-injective, some-ne-none}
 use mathlib.Core.Option as maybe
@@ -8,11 +9,12 @@ use native.Mathlib.Decide.{ℕ_discrete}
 use lib.ListN.{get_elem?}
 use Rattle.atomic_table.specs.Table.{State, keeps, stepped}
 use Rattle.atomic_table.proofs.Lists.{set_here, set_else, set_again}
+use Rattle.sx_turn.specs.declared.seat.TheConstants.{MAX_SEATS}
 use Rattle.sx_turn.specs.declared.rule.View.{View}
-use Rattle.sx_turn.specs.Places.{once_below, Each}
+use Rattle.sx_turn.specs.Places.{once_below}
 use Rattle.sx_turn.specs.Views.{ticket_count, times_owned, owned_count}
-use Rattle.sx_turn.specs.Rules.{Fits, AtHome, IsOut, Holds, Kept, slot_content}
-use Rattle.sx_turn.proofs.Lists.{inside, none_if, total_set}
+use Rattle.sx_turn.specs.Rules.{Fits, IsInSlot, IsOut, Holds, Kept, slot_content}
+use Rattle.sx_turn.proofs.Lists.{inside, none_if, sum_by_set}
 use Rattle.sx_turn.proofs.Views.{apart_set, each_set}
 
 module _ {B E : Type 0} (stands : B → List E) (lasts : B → ℕ) (fixed : ℕ) (who : E → ℕ) where
@@ -37,14 +39,14 @@ module _ {B E : Type 0} (stands : B → List E) (lasts : B → ℕ) (fixed : ℕ
     pub numbers : (n : ℕ) → once_below n c' + times_owned n v ≡ once_below n c + times_owned n w
     pub shared : c' + owned_count v ≡ c + owned_count w
     pub small : a' < 2 ^ 64
-    pub bound : (1 ≤ c') × (c' ≤ 64)
+    pub bound : (1 ≤ c') × (c' ≤ MAX_SEATS)
     -- the list has been seen whole, and its entries have numbers
     pub whole : (k : ℕ) × (x : V) × (n : ℕ) × (get_elem? (set vs id w) k ≡ some x) × (x.number ≡ Some n) × (x.seen ≡ log')
-    pub entries : Each (λ e. who e < c') log'
+    pub entries : AllByRecursion (λ e. who e < c') log'
     -- it knows the right lasting number, if any
     pub lasting : (n : ℕ) → w.lasting ≡ Some n → n ≡ fixed
     -- where the value is
-    pub value : AtHome stands lasts fixed who log' homes' (set vs id w) ⊎ IsOut stands lasts fixed who log' homes' (set vs id w)
+    pub value : IsInSlot stands lasts fixed who log' homes' (set vs id w) ⊎ IsOut stands lasts fixed who log' homes' (set vs id w)
 
   -- the rule holds after one view is set
   pub reseat : (a b c a' b' c' : ℕ) (log log' : List E) (homes homes' : List (maybe.Option S)) (vs : List V) (id : ℕ) (v w : V) → get_elem? vs id ≡ some v
@@ -54,10 +56,10 @@ module _ {B E : Type 0} (stands : B → List E) (lasts : B → ℕ) (fixed : ℕ
   reseat a b c a' b' c' log log' homes homes' vs id v w at h r = record {
     each = each_set (λ j u. Fits who a' b' c' log' u) vs id w r.fits (λ j u ne e. r.others j u ne e (h.each j u e));
     apart = apart_set vs id w h.apart r.fresh;
-    waiting = (let t = total_set ticket_count vs id v w at in let n = h.waiting in let s = r.waiting in omega arith);
+    waiting = (let t = sum_by_set ticket_count vs id v w at in let n = h.waiting in let s = r.waiting in omega arith);
     small = r.small;
-    numbers = (λ n. let t = total_set (times_owned n) vs id v w at in let k = h.numbers n in let o = r.numbers n in omega arith);
-    shared = (let t = total_set owned_count vs id v w at in let k = h.shared in let s = r.shared in omega arith);
+    numbers = (λ n. let t = sum_by_set (times_owned n) vs id v w at in let k = h.numbers n in let o = r.numbers n in omega arith);
+    shared = (let t = sum_by_set owned_count vs id v w at in let k = h.shared in let s = r.shared in omega arith);
     bound = r.bound;
     whole = r.whole;
     entries = r.entries;
@@ -76,9 +78,9 @@ module _ {B E : Type 0} (stands : B → List E) (lasts : B → ℕ) (fixed : ℕ
 
   -- the value is where it was, where the set view kept its turn
   pub value_stays : (log : List E) (homes : List (maybe.Option S)) (vs : List V) (id : ℕ) (v w : V) → get_elem? vs id ≡ some v → w.turn ≡ v.turn → w.closed ≡ v.closed
-      → AtHome stands lasts fixed who log homes vs ⊎ IsOut stands lasts fixed who log homes vs → AtHome stands lasts fixed who log homes (set vs id w) ⊎ IsOut stands lasts fixed who log homes (set vs id w)
+      → IsInSlot stands lasts fixed who log homes vs ⊎ IsOut stands lasts fixed who log homes vs → IsInSlot stands lasts fixed who log homes (set vs id w) ⊎ IsOut stands lasts fixed who log homes (set vs id w)
   value_stays log homes vs id v w at same is_closed = ⊎_elim
-      (λ (h : AtHome stands lasts fixed who log homes vs). inl (h.0, h.1, h.2, each_set (λ j u. u.turn ≡ None) vs id w (same ∙ h.3 id v at) (λ j u _ e. h.3 j u e), h.4))
+      (λ (h : IsInSlot stands lasts fixed who log homes vs). inl (h.0, h.1, h.2, each_set (λ j u. u.turn ≡ None) vs id w (same ∙ h.3 id v at) (λ j u _ e. h.3 j u e), h.4))
       (λ (h : IsOut stands lasts fixed who log homes vs). inr (dite (ℕ_discrete h.0 id)
       (λ is. let was : v ≡ h.1 = some-injective v h.1 (sym at ∙ (ap (get_elem? vs) (sym is) ∙ h.2)) in
       (id, w, set_here vs id w (inside vs id v at), same ∙ (ap (λ (z : V). z.turn) was ∙ h.3), h.4 ∙ ap (λ (b : Bool). let l : List (maybe.Option S) = slot_content b ∷ [] in l) (sym (is_closed ∙ ap (λ (z : V). z.closed) was))))
@@ -97,7 +99,7 @@ module _ {B E : Type 0} (stands : B → List E) (lasts : B → ℕ) (fixed : ℕ
 
   -- the slot is out while a seat is in its turn
   pub is_out : (a b c : ℕ) (log : List E) (homes : List (maybe.Option S)) (vs : List V) (id : ℕ) (v : V) → get_elem? vs id ≡ some v → v.turn ≡ Some log → v.closed ≡ false → H a b c log homes vs → homes ≡ none ∷ []
-  is_out a b c log homes vs id v at turn still_open h = ⊎_elim (λ (home : AtHome stands lasts fixed who log homes vs). absurd (cc (turn, home.3 id v at)))
+  is_out a b c log homes vs id v at turn still_open h = ⊎_elim (λ (home : IsInSlot stands lasts fixed who log homes vs). absurd (cc (turn, home.3 id v at)))
       (λ (out : IsOut stands lasts fixed who log homes vs).
       let here : out.0 ≡ id = h.apart out.0 id out.1 v b out.2 at ((h.each out.0 out.1 out.2).queue.turn log out.3).0 ((h.each id v at).queue.turn log turn).0 in
       let same : out.1 ≡ v = some-injective out.1 v (sym out.2 ∙ (ap (get_elem? vs) here ∙ at)) in

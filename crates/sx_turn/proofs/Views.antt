@@ -1,12 +1,13 @@
 -- Views among views: what of them a set view, a new list, a merged view keep.
 use Rattle.std.proofs.Common.{◌≡◌, ◌≢◌, ◌⊎◌, inl, inr, ⊎_elim, ℕ, suc, ◌+◌, ◌≤◌, ◌==◌, false, List, [], ◌∷◌, ◌++◌, length, set, refl, ap, sym, ◌∙◌, subst, length-append, if◌then◌else◌, arith, Option, Some, None}
+use Rattle.std.specs.List.{AllByRecursion}
 use mathlib.Core.Option.{some}
 use mathlib.Core.Logic.{dite}
 use native.Mathlib.Decide.{ℕ_discrete}
 use lib.ListN.{get_elem?}
 use Rattle.atomic_table.proofs.Lists.{at_set}
 use Rattle.sx_turn.specs.declared.rule.View.{View}
-use Rattle.sx_turn.specs.Places.{places, times, Each, longer}
+use Rattle.sx_turn.specs.Places.{places, times, longer}
 use Rattle.sx_turn.specs.Views.{owned_pairs, times_owned, pairs_with, after_turn, merged, owned_count}
 use Rattle.sx_turn.specs.Rules.{Fits, FitsQueue, FitsCount, Apart}
 use Rattle.sx_turn.proofs.Lists.{each_append, each_map, longer_left, longer_right, longer_within, prefix_more}
@@ -98,15 +99,15 @@ module _ {E : Type 0} (who : E → ℕ) where
   }
 
   -- the pairs of the view whose entry was added are exact in the new list
-  pub pairs_own : (log : List E) (e : E) (v : View E) → v.number ≡ Some (who e) → times (who e) v.ended ≡ 0 → Each (λ p. (p.1 ≡ places who p.0 log) × (p.1 ≡ places who p.0 v.seen)) (owned_pairs v)
-      → Each (λ p. (p.1 ≡ places who p.0 (log ++ e ∷ [])) × (p.1 ≡ places who p.0 (log ++ e ∷ []))) (owned_pairs (after_turn (log ++ e ∷ []) (v.mine ++ (length log + 1) ∷ []) v))
+  pub pairs_own : (log : List E) (e : E) (v : View E) → v.number ≡ Some (who e) → times (who e) v.ended ≡ 0 → AllByRecursion (λ p. (p.1 ≡ places who p.0 log) × (p.1 ≡ places who p.0 v.seen)) (owned_pairs v)
+      → AllByRecursion (λ p. (p.1 ≡ places who p.0 (log ++ e ∷ [])) × (p.1 ≡ places who p.0 (log ++ e ∷ []))) (owned_pairs (after_turn (log ++ e ∷ []) (v.mine ++ (length log + 1) ∷ []) v))
   pairs_own log e v num none_of f =
       let Q : List E → ℕ × List ℕ → Type 0 = λ seen p. (p.1 ≡ places who p.0 log) × (p.1 ≡ places who p.0 seen) in
       let R : ℕ × List ℕ → Type 0 = λ p. (p.1 ≡ places who p.0 (log ++ e ∷ [])) × (p.1 ≡ places who p.0 (log ++ e ∷ [])) in
       let new : List ℕ = v.mine ++ (length log + 1) ∷ [] in
-      let g : Each (Q v.seen) ((who e, v.mine) ∷ v.ended) = subst (λ (o : Option ℕ). Each (Q v.seen) (pairs_with o v.mine v.ended)) num f in
+      let g : AllByRecursion (Q v.seen) ((who e, v.mine) ∷ v.ended) = subst (λ (o : Option ℕ). AllByRecursion (Q v.seen) (pairs_with o v.mine v.ended)) num f in
       let now : new ≡ places who (who e) (log ++ e ∷ []) = ap (λ (l : List ℕ). l ++ (length log + 1) ∷ []) g.0.0 ∙ sym (places_own who (who e) log e refl) in
-      subst (λ (o : Option ℕ). Each R (pairs_with o new v.ended)) (sym num)
+      subst (λ (o : Option ℕ). AllByRecursion R (pairs_with o new v.ended)) (sym num)
       ((now, now), each_map _ _ (λ p q. (q.0, q.0)) v.ended (pairs_other who log v.seen e v.ended none_of g.1))
 
   -- a merged view fits where both did
@@ -114,13 +115,13 @@ module _ {E : Type 0} (who : E → ℕ) where
   merged_fits a b c n log v w num free f g =
       let s : List E = longer v.seen w.seen in let top = longer_within v.seen w.seen log f.history.seen g.history.seen in
       let Q : ℕ × List ℕ → Type 0 = λ p. (p.1 ≡ places who p.0 log) × (p.1 ≡ places who p.0 s) in
-      let mine : Each Q (owned_pairs v) = pairs_longer who log v.seen s (longer_left v.seen w.seen log f.history.seen g.history.seen) top (owned_pairs v) f.history.exact in
-      let theirs : Each Q (owned_pairs w) = pairs_longer who log w.seen s (longer_right v.seen w.seen log f.history.seen g.history.seen) top (owned_pairs w) g.history.exact in
-      let mine' : Each Q ((n, v.mine) ∷ v.ended) = subst (λ (o : Option ℕ). Each Q (pairs_with o v.mine v.ended)) num mine in record {
+      let mine : AllByRecursion Q (owned_pairs v) = pairs_longer who log v.seen s (longer_left v.seen w.seen log f.history.seen g.history.seen) top (owned_pairs v) f.history.exact in
+      let theirs : AllByRecursion Q (owned_pairs w) = pairs_longer who log w.seen s (longer_right v.seen w.seen log f.history.seen g.history.seen) top (owned_pairs w) g.history.exact in
+      let mine' : AllByRecursion Q ((n, v.mine) ∷ v.ended) = subst (λ (o : Option ℕ). AllByRecursion Q (pairs_with o v.mine v.ended)) num mine in record {
         history = record {
           seen = top;
           olds = (f.history.seen, (g.history.seen, tt));
-          exact = subst (λ (o : Option ℕ). Each Q (pairs_with o v.mine (owned_pairs w ++ v.ended))) (sym num) (mine'.0, each_append Q (owned_pairs w) v.ended theirs mine'.1);
+          exact = subst (λ (o : Option ℕ). AllByRecursion Q (pairs_with o v.mine (owned_pairs w ++ v.ended))) (sym num) (mine'.0, each_append Q (owned_pairs w) v.ended theirs mine'.1);
         };
         queue = record {
           ticket = f.queue.ticket;

@@ -8,7 +8,7 @@ use Rattle.atomic_table.specs.Table.{State}
 use Rattle.sx_turn.specs.declared.rule.View.{View}
 use Rattle.sx_turn.specs.Places.{once_below}
 use Rattle.sx_turn.specs.Views.{owned_pairs}
-use Rattle.sx_turn.specs.Rules.{Kept, Holds, AtHome, IsOut, slot_content}
+use Rattle.sx_turn.specs.Rules.{Kept, Holds, IsInSlot, IsOut, slot_content}
 use Rattle.sx_turn.specs.PlainRule.{IsOneHistory, HasView, OneSeatIsInItsTurn, ValueIsInOnePlace}
 use Rattle.sx_turn.proofs.Lists.{each_map}
 use Rattle.sx_turn.proofs.Places.{once_here}
@@ -36,7 +36,7 @@ module _ {B E : Type 0} (stands : B → List E) (lasts : B → ℕ) (fixed : ℕ
   -- the value is in one place
   one_value : (a b c : ℕ) (log : List E) (homes : Slots) (vs : List V) → Holds stands lasts fixed who a b c log homes vs → ValueIsInOnePlace stands lasts fixed log homes vs
   one_value a b c log homes vs h = (
-    (λ none_in. ⊎_elim (λ (home : AtHome stands lasts fixed who log homes vs). (home.0, home.1, home.2, home.4)) (λ (out : IsOut stands lasts fixed who log homes vs). absurd (cc (none_in out.0 out.1 out.2, out.3))) h.value),
+    (λ none_in. ⊎_elim (λ (home : IsInSlot stands lasts fixed who log homes vs). (home.0, home.1, home.2, home.4)) (λ (out : IsOut stands lasts fixed who log homes vs). absurd (cc (none_in out.0 out.1 out.2, out.3))) h.value),
     (λ j v g at e. let f = (h.each j v at).queue.turn g e in (f.1, (λ still. slot j v g at e ∙ content v.closed false still), λ gone. slot j v g at e ∙ content v.closed true gone)),
   ) where
     content : (x y : Bool) → x ≡ y → slot_content {B = B} x ∷ [] ≡ slot_content y ∷ []
@@ -44,7 +44,7 @@ module _ {B E : Type 0} (stands : B → List E) (lasts : B → ℕ) (fixed : ℕ
 
     slot : (j : ℕ) (v : V) (g : List E) → HasView vs j v → v.turn ≡ Some g → homes ≡ slot_content v.closed ∷ []
     slot j v g at e = ⊎_elim
-        (λ (home : AtHome stands lasts fixed who log homes vs). absurd (cc (home.3 j v at, e)))
+        (λ (home : IsInSlot stands lasts fixed who log homes vs). absurd (cc (home.3 j v at, e)))
         (λ (out : IsOut stands lasts fixed who log homes vs).
         let here : out.0 ≡ j = h.apart out.0 j out.1 v b out.2 at ((h.each out.0 out.1 out.2).queue.turn log out.3).0 ((h.each j v at).queue.turn g e).0 in
         let same : out.1 ≡ v = some-injective out.1 v (sym out.2 ∙ (ap (get_elem? vs) here ∙ at)) in

@@ -1,15 +1,5 @@
--- The places of a caller's entries in a list, and sums over lists.
+-- The places of a caller's entries in a list.
 use Rattle.std.specs.Prelude.{ℕ, ◌+◌, ◌==◌, ltb, if◌then◌else◌, List, [], ◌∷◌, ◌++◌, length, Option, Some, None}
-
--- each item of the list is such
-abbrev pub Each : {A : Type 0} → (A → Type 0) → List A → Type 0
-Each P [] = Unit {0}
-Each P (x ∷ xs) = P x × Each P xs
-
--- the weights of the items, added up
-abbrev pub total : {A : Type 0} → (A → ℕ) → List A → ℕ
-total f [] = 0
-total f (x ∷ xs) = f x + total f xs
 
 -- the places of caller n's entries, where the first entry has place k
 abbrev pub places_from : {E : Type 0} → (E → ℕ) → ℕ → ℕ → List E → List ℕ
@@ -29,7 +19,8 @@ times n (p ∷ ps) = (if n == p.0 then 1 else 0) + times n ps
 abbrev pub once_below : ℕ → ℕ → ℕ
 once_below n count = if ltb n count then 1 else 0
 
--- a seat's places after its turn: where the list is longer than the one with which the turn began, its last place joins them
+-- a seat's places after its turn: where the list is longer than the one with which the turn began, its last place
+-- joins them
 abbrev pub places_grown : {E : Type 0} → Option (List E) → List ℕ → List E → List ℕ
 places_grown None mine log = mine
 places_grown (Some began) mine log = if length log == length began then mine else mine ++ length log ∷ []

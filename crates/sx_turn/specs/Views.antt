@@ -1,8 +1,11 @@
--- What a view owns, what becomes of it in each move, and what it may know. A view is what one seat knows; it exists in proofs alone.
+-- What a view owns, what becomes of it in each move, and what it may know. A view is what one seat knows; it exists
+-- in proofs alone.
 use Rattle.std.specs.Prelude.{◌≡◌, ℕ, ◌+◌, ◌≤◌, true, false, List, [], ◌∷◌, ◌++◌, length, max, Option, Some, None}
+use Rattle.std.specs.List.{AllByRecursion}
 use mathlib.Core.List.{IsPrefix}
+use Rattle.sx_turn.specs.declared.seat.TheConstants.{MAX_SEATS}
 use Rattle.sx_turn.specs.declared.rule.View.{View}
-use Rattle.sx_turn.specs.Places.{Each, places, times, once_below, places_grown, longer}
+use Rattle.sx_turn.specs.Places.{places, times, once_below, places_grown, longer}
 
 -- 1 where there is one, else 0
 abbrev pub one_if : {A : Type 0} → Option A → ℕ
@@ -31,9 +34,24 @@ module _ {E : Type 0} where
   abbrev pub ticket_count : View E → ℕ
   ticket_count v = one_if v.ticket
 
-  -- a new view without a number of its own, which knows the value's lasting number, has seen this list and knows of so many callers
+  -- a new view without a number of its own, which knows the value's lasting number, has seen this list and knows of
+  -- so many callers
   abbrev pub newcomer : Option ℕ → List E → ℕ → View E
-  newcomer lasting seen known = record { lasting = lasting; number = None; seen = seen; mine = []; ended = []; olds = []; ticket = None; known = known; turn = None; counted = false; closed = false }
+  newcomer lasting seen known
+      = record {
+        lasting = lasting;
+        number = None;
+        seen = seen;
+        mine = [];
+        ended = [];
+        olds = [];
+        ticket = None;
+        known
+            = known;
+        turn = None;
+        counted = false;
+        closed = false;
+      }
 
   -- the view of the first seat: it has number 0, and all entries so far are its own
   abbrev pub first_view : (E → ℕ) → ℕ → List E → View E
@@ -73,21 +91,31 @@ module _ {E : Type 0} where
 
   -- one view takes in another
   abbrev pub merged : View E → View E → View E
-  merged v w = record v { seen = longer v.seen w.seen; known = max v.known w.known; olds = v.seen ∷ w.seen ∷ []; ended = owned_pairs w ++ v.ended }
+  merged v w = record v {
+    seen = longer v.seen w.seen;
+    known = max v.known w.known;
+    olds = v.seen ∷ w.seen ∷ [];
+    ended
+        = owned_pairs w ++ v.ended;
+  }
 
   -- each number that the view owns has exactly the places in the list that are kept for it
   abbrev pub OwnsPlacesIn : (E → ℕ) → List E → View E → Type 0
-  OwnsPlacesIn who log v = Each (λ p. p.1 ≡ places who p.0 log) (owned_pairs v)
+  OwnsPlacesIn who log v = AllByRecursion (λ p. p.1 ≡ places who p.0 log) (owned_pairs v)
 
-  -- the list begins with what the view has seen, and each number that the view owns has the places that it kept, in the list and in what was seen
+  -- the list begins with what the view has seen, and each number that the view owns has the places that it kept, in
+  -- the list and in what was seen
   abbrev pub Extends : (E → ℕ) → View E → List E → Type 0
   Extends who v log = IsPrefix v.seen log × OwnsPlacesIn who log v × OwnsPlacesIn who v.seen v
 
   -- the view owns all of the n numbers: then it has seen the whole list, and each entry has one of its numbers
   abbrev pub SeesAll : (E → ℕ) → ℕ → View E → List E → Type 0
-  SeesAll who n v h = (v.seen ≡ h) × Each (λ e. times_owned (who e) v ≡ 1) h × OwnsPlacesIn who v.seen v × ((k : ℕ) → times_owned k v ≡ once_below k n)
+  SeesAll who n v h = (v.seen ≡ h) × AllByRecursion (λ e. times_owned (who e) v ≡ 1) h × OwnsPlacesIn who v.seen v
+      × ((k : ℕ) → times_owned k v ≡ once_below k n)
 
-  -- what a view can tell of itself: old lists no longer than what it has seen begin it, its places are exact in it, and no number stands twice among its pairs
+  -- what a view can tell of itself: old lists no longer than what it has seen begin it, its places are exact in it,
+  -- and no number stands twice among its pairs
   abbrev pub IsSound : (E → ℕ) → View E → Type 0
-  IsSound who v = Each (λ o. length o ≤ length v.seen → IsPrefix o v.seen) v.olds × OwnsPlacesIn who v.seen v × (owned_count v ≤ 64)
+  IsSound who v = AllByRecursion (λ o. length o ≤ length v.seen → IsPrefix o v.seen) v.olds
+      × OwnsPlacesIn who v.seen v × (owned_count v ≤ MAX_SEATS)
       × ((n : ℕ) → times_owned n v ≤ 1)

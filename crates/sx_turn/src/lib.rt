@@ -16,11 +16,10 @@ mod plays;
 mod rule;
 mod seat;
 mod steps;
-#[cfg(test)]
-mod tests;
 mod turn;
 
 pub use plain::rule_in_words;
 pub use rule::Booked;
-pub use seat::{Held, Seat};
-pub use turn::{CloseFault, NoMemory, SeatFault, Turn};
+pub use seat::{Held, MAX_SEATS, Seat};
+pub use sx_memory::NoMemory;
+pub use turn::{CloseFault, SeatFault, Turn};

@@ -11,5 +11,6 @@ use crate::rule::Booked;
 /// most is in its turn; each number is owned once; the value is in one place and stands for the one list; what any
 /// seat has seen is a beginning of that list; and the places that seats keep are exact. The call does nothing.
 pub fn rule_in_words<B: Booked>()
-    ensures { (fixed : ℕ) (s : State (Option B) (View B.Entry)) → Kept B.stands B.lasting fixed B.who s → IsOneHistory B.stands B.lasting fixed B.who s }
+    ensures { (fixed : ℕ) (s : State (Option B) (View B.Entry)) → Kept B.stands B.lasting fixed B.who s
+        → IsOneHistory B.stands B.lasting fixed B.who s }
 {}

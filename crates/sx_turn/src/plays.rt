@@ -20,7 +20,7 @@ impl<B: Booked> Play<Option<B>, View<B::Entry>> for Look {
     ghost then = { LookTells B.stands B.lasting B.who };
 }
 
-// Ends the turn, by adding 1 to word 1. The value goes home.
+// Ends the turn, by adding 1 to word 1. The value is back in its slot.
 pub(crate) struct Next;
 
 impl<B: Booked> Play<Option<B>, View<B::Entry>> for Next {
@@ -47,7 +47,7 @@ impl<B, E> Play<Option<B>, View<E>> for Enrol {
     ghost then = { EnrolTells };
 }
 
-// Brings the slot home empty, by a load of word 0 in the turn, after the value was taken out for good.
+// Returns the slot empty, by a load of word 0 in the turn, after the value was taken out for good.
 pub(crate) struct Close;
 
 impl<B, E> Play<Option<B>, View<E>> for Close {

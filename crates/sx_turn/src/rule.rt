@@ -1,5 +1,5 @@
-//! The rule of the turn, over a table of three words and one slot.
-//! Word 0 counts the tickets that were drawn, word 1 is the ticket that is served, and word 2 counts the numbers that were given out. The slot holds the value.
+//! The rule of the turn, over a table of three words and one slot. Word 0 counts the tickets that were drawn, word 1
+//! is the ticket that is served, and word 2 counts the numbers that were given out. The slot holds the value.
 use atomic_table::{Shared, Table, TableRule};
 use std::alloc::Global;
 use std::collections::LinkedList;

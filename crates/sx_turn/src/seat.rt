@@ -6,6 +6,9 @@ ghost use Rattle.sx_turn.specs.contracts.seat.Held.{the_row};
 use crate::rule::{Booked, Place};
 use std::marker::Model;
 
+/// The most seats that a turn gives out, each with a number of its own, from 0.
+pub const MAX_SEATS: u64 = 64;
+
 /// A caller's right to take the value, and what it knows of the list: a beginning of it, and the places there of
 /// its own entries and of those of the seats that joined it. It ends by `Turn::join` or `Turn::close`, and can't
 /// be dropped.

@@ -1,20 +1,21 @@
 //! The calls' steps on the table. Each takes the shared table and a seat at it.
 ghost use Rattle.std.specs.Prelude.{◌≡◌, ◌<◌, ◌∷◌, [], Some, None, ℕ, IfOk, IfErr};
+ghost use Rattle.std.specs.List.{AllByRecursion};
 ghost use mathlib.Core.List.{IsPrefix};
-ghost use Rattle.sx_turn.specs.Places.{Each, places};
-ghost use Rattle.sx_turn.specs.Views.{with_ticket, in_turn, after_next, newcomer, first_view, merged, owned_count, Extends, IsSound};
-ghost use Rattle.sx_turn.specs.Moves.{IsBoard, IsIdle, TurnBegins, MayEnd, TurnEnds, MayPutBack, CountedInTurn, NumberDrawn, IsClosed, TakenOut, StillOut};
+ghost use Rattle.sx_turn.specs.Places.{places};
+ghost use Rattle.sx_turn.specs.Views.{with_ticket, in_turn, after_next, newcomer, first_view, merged, owned_count};
+ghost use Rattle.sx_turn.specs.Views.{Extends, IsSound};
+ghost use Rattle.sx_turn.specs.Moves.{IsBoard, IsIdle, TurnBegins, MayEnd, TurnEnds, MayPutBack, CountedInTurn};
+ghost use Rattle.sx_turn.specs.Moves.{NumberDrawn, IsClosed, TakenOut, StillOut};
 
 use crate::plays::{Close, Count, Draw, Enrol, Look, Merge, Next, Recall};
 use crate::rule::{Board, Booked, Place, SharedBoard};
+use crate::seat::MAX_SEATS;
 use atomic_table::{Refused, Table};
 use std::alloc::{AllocFailed, Global};
 use std::snapshot::Snapshot;
 use std::sync::Wait;
 use std::thread;
-
-// How many numbers there are.
-pub(crate) const SEATS: u64 = 64;
 
 // Draws a ticket.
 pub(crate) fn draw<B: Booked, R: Wait>(rt: &R, board: &SharedBoard<B>, place: &mut Place<B>) -> u64
@@ -74,7 +75,8 @@ pub(crate) fn take_value<B: Booked, R: Wait>(
     requires board { (place.old.table_id ≡ board.now.table_id) × IsBoard board.now.table_id }
     requires idle { IsIdle place.old.me }
     ensures same { (place.new.table_id ≡ place.old.table_id) × (place.new.id ≡ place.old.id) }
-    ensures taken { (t : ℕ) × (place.new.me ≡ (in_turn (B.stands result) (with_ticket t place.old.me.0), (0, None) ∷ [])) }
+    ensures taken { (t : ℕ)
+        × (place.new.me ≡ (in_turn (B.stands result) (with_ticket t place.old.me.0), (0, None) ∷ [])) }
     ensures extends { Extends B.who place.old.me.0 (B.stands result) }
     ensures lasting { place.old.me.0.lasting ≡ Some (B.lasting result) }
 {
@@ -125,7 +127,7 @@ pub(crate) fn draw_number<B: Booked, R: Wait>(
     ensures drawn { NumberDrawn B.who place.old.me.0 result place.new.me }
 {
     let callers = count_callers(rt, board, place);
-    if callers < SEATS {
+    if callers < MAX_SEATS {
         board.fetch_add::<Enrol>(place, 2, 1);
         leave(board, place);
         return callers;
@@ -146,8 +148,10 @@ pub(crate) fn recall<B: Booked>(board: &SharedBoard<B>, place: &mut Place<B>)
 
 // Takes in another seat, and recalls what the seat then knows.
 pub(crate) fn take_in<B: Booked>(board: &SharedBoard<B>, place: &mut Place<B>, other: Place<B>)
-    requires board { (place.old.table_id ≡ board.now.table_id) × (other.table_id ≡ board.now.table_id) × IsBoard board.now.table_id }
-    requires idle { ((n : ℕ) × (place.old.me.0.number ≡ Some n)) × (place.old.me.0.ticket ≡ None) × (place.old.me.1 ≡ [])
+    requires board { (place.old.table_id ≡ board.now.table_id) × (other.table_id ≡ board.now.table_id)
+        × IsBoard board.now.table_id }
+    requires idle { ((n : ℕ) × (place.old.me.0.number ≡ Some n)) × (place.old.me.0.ticket ≡ None)
+        × (place.old.me.1 ≡ [])
         × (other.me.0.ticket ≡ None) × (other.me.1 ≡ []) }
     ensures same { (place.new.table_id ≡ place.old.table_id) × (place.new.id ≡ place.old.id) }
     ensures met { place.new.me ≡ (merged place.old.me.0 other.me.0, []) }
@@ -155,6 +159,27 @@ pub(crate) fn take_in<B: Booked>(board: &SharedBoard<B>, place: &mut Place<B>, o
 {
     board.join_seat::<Merge>(place, other);
     board.load::<Recall>(place, 0);
+}
+
+// Recalls what two seats know, and takes the second in.
+pub(crate) fn join_places<B: Booked>(
+    board: &SharedBoard<B>,
+    place: &mut Place<B>,
+    mut other: Place<B>,
+)
+    requires board { (place.old.table_id ≡ board.now.table_id) × (other.table_id ≡ board.now.table_id)
+        × IsBoard board.now.table_id }
+    requires idle { ((n : ℕ) × (place.old.me.0.number ≡ Some n)) × (place.old.me.0.ticket ≡ None)
+        × (place.old.me.1 ≡ [])
+        × (other.me.0.ticket ≡ None) × (other.me.1 ≡ []) }
+    ensures same { (place.new.table_id ≡ place.old.table_id) × (place.new.id ≡ place.old.id) }
+    ensures met { place.new.me ≡ (merged place.old.me.0 other.me.0, []) }
+    ensures before { IsSound B.who place.old.me.0 × IsSound B.who other.me.0 }
+    ensures sound { IsSound B.who place.new.me.0 }
+{
+    recall(board, &mut other);
+    recall(board, place);
+    take_in(board, place, other);
 }
 
 // Waits for a turn, and takes the value out for good where the seat owns all numbers.
@@ -204,7 +229,7 @@ pub(crate) fn open_board<B: Booked>(
     about: &Snapshot<B>,
 ) -> Result<(Board<B>, Place<B>), B>
     requires slots { slots.items ≡ Some about.now.value ∷ [] }
-    requires own { Each (λ e. B.who e ≡ 0) (B.stands about.now.value) }
+    requires own { AllByRecursion (λ e. B.who e ≡ 0) (B.stands about.now.value) }
     ensures ok { IfOk result (λ t. (t.1.table_id ≡ t.0.shared.table_id) × IsBoard t.0.shared.table_id
         × (t.1.me ≡ (first_view B.who (B.lasting about.now.value) (B.stands about.now.value), []))) }
     ensures err { IfErr result (λ v. v ≡ about.now.value) }

@@ -1,16 +1,19 @@
 //! The turn, as its callers see it.
 ghost use Rattle.std.specs.Prelude.{◌≡◌, ◌<◌, ◌≤◌, ◌+◌, Some, None, length, IfOk, IfErr};
+ghost use Rattle.std.specs.List.{AllByRecursion};
 ghost use mathlib.Core.List.{IsPrefix};
+ghost use Rattle.sx_turn.specs.declared.seat.TheConstants.{MAX_SEATS};
 ghost use Rattle.sx_turn.specs.declared.turn.SeatFault.TheVariants.{NoSeat};
-ghost use Rattle.sx_turn.specs.Places.{Each};
-ghost use Rattle.sx_turn.specs.Seats.{pairs_of, HasPlacesIn, IsExact, HasNumbersBelow, HasDistinctNumbers, HasAllNumbers, OwnsEachEntry, HasEntriesBelow, first_seat, new_seat, after_take, MayGive, after_give, after_look, after_join};
+ghost use Rattle.sx_turn.specs.Seats.{pairs_of, HasPlacesIn, IsExact, HasNumbersBelow, HasDistinctNumbers};
+ghost use Rattle.sx_turn.specs.Seats.{HasAllNumbers, OwnsEachEntry, HasEntriesBelow, first_seat, new_seat, after_take};
+ghost use Rattle.sx_turn.specs.Seats.{MayGive, after_give, after_look, after_join};
 
 use crate::plays::Branch;
 use crate::rule::{Board, Booked};
-use crate::seat::{Held, Seat};
+use crate::seat::{Held, MAX_SEATS, Seat};
 use crate::steps::{
-    SEATS, draw_number, free_board, give_value, one_slot, open_board, recall, take_in, take_out,
-    take_value,
+    draw_number, free_board, give_value, join_places, one_slot, open_board, recall, take_in,
+    take_out, take_value,
 };
 use std::alloc::Global;
 use std::marker::Model;
@@ -35,10 +38,6 @@ impl<B: Booked> Model for Turn<B> {
     ghost invariant = { λ t. IsBoard t.table.shared.table_id };
 }
 
-/// There was no memory.
-#[derive(Clone, Copy, Debug, PartialEq, Eq)]
-pub struct NoMemory;
-
 /// Why there is no new seat.
 #[derive(Clone, Copy, Debug, PartialEq, Eq)]
 pub enum SeatFault {
@@ -50,7 +49,9 @@ pub enum SeatFault {
 
 /// A turn that can't be closed yet, with the seat that was to close it.
 pub struct CloseFault<T, S> {
+    /// The turn, still open.
     pub whole: T,
+    /// The seat that was to close it.
     pub token: S,
     /// How many numbers were given out that the seat neither has nor joined, at least 1.
     pub out: u64,
@@ -60,7 +61,7 @@ impl<B: Booked> Turn<B> {
     /// A turn over a value, all of whose entries are of number 0, and the seat of that number.
     /// For want of memory the value comes back.
     pub fn begin(alloc: Global, value: B) -> Result<(Turn<B>, Seat<B>), B>
-        requires { Each (λ e. B.who e ≡ 0) (B.stands value) }
+        requires { AllByRecursion (λ e. B.who e ≡ 0) (B.stands value) }
         ensures ok { IfOk result (λ t. t.1 ≡ first_seat B.who t.0 (B.lasting value) (B.stands value)) }
         ensures err { IfErr result (λ v. v ≡ value) }
     {
@@ -83,22 +84,24 @@ impl<B: Booked> Turn<B> {
         requires idle { seat.old.taken ≡ None }
 
         ensures new { IfOk result (λ s. s ≡ new_seat self.now seat.old.lasting s.number s.seen) }
-        ensures number { IfOk result (λ s. (s.number < 64) × (seat.old.known ≤ s.number)) }
+        ensures number { IfOk result (λ s. (s.number < MAX_SEATS) × (seat.old.known ≤ s.number)) }
 
         // No number that the asking seat knows of is this one, and no entry that was made by then has it.
         ensures unused { IfOk result (λ s. HasNumbersBelow s.number seat.old × HasEntriesBelow B.who s.number s.seen) }
 
         ensures asked { IfOk result (λ s. seat.new ≡ after_look s.seen (s.number + 1) seat.old) }
-        ensures refused { IfErr result (λ f. (f ≡ NoSeat 64) × (seat.new ≡ after_look seat.new.seen 64 seat.old) × (seat.old.known ≤ 64)) }
+        ensures refused { IfErr result (λ f. (f ≡ NoSeat MAX_SEATS)
+            × (seat.new ≡ after_look seat.new.seen MAX_SEATS seat.old) × (seat.old.known ≤ MAX_SEATS)) }
 
         // What the asking seat has newly seen are entries of others.
-        ensures seen { IsPrefix seat.old.seen seat.new.seen × HasPlacesIn B.who seat.new.seen seat.old × IsExact B.who seat.old }
+        ensures seen { IsPrefix seat.old.seen seat.new.seen × HasPlacesIn B.who seat.new.seen seat.old
+            × IsExact B.who seat.old }
     {
         let board = &self.table.shared;
         recall(board, &mut seat.place);
         let mut place = board.split_seat::<Branch>(&mut seat.place);
         let callers = draw_number(rt, board, &mut place);
-        if callers < SEATS {
+        if callers < MAX_SEATS {
             // A copy of the new seat's view tells the asking one what that has seen.
             let note = board.split_seat::<Branch>(&mut place);
             take_in(board, &mut seat.place, note);
@@ -120,7 +123,9 @@ impl<B: Booked> Turn<B> {
 
         ensures met { into.new ≡ after_join into.old from }
         ensures seen { IsPrefix into.old.seen into.new.seen × IsPrefix from.seen into.new.seen }
-        ensures exact { IsExact B.who into.new }
+
+        // What either has newly seen are entries of others: its places are the same in both lists.
+        ensures exact { IsExact B.who into.old × IsExact B.who from × IsExact B.who into.new }
         ensures distinct { HasDistinctNumbers into.new }
     {
         let Seat {
@@ -128,7 +133,7 @@ impl<B: Booked> Turn<B> {
             number: _,
             owns,
         } = from;
-        take_in(&self.table.shared, &mut into.place, place);
+        join_places(&self.table.shared, &mut into.place, place);
         into.owns += owns;
     }
 
@@ -173,10 +178,12 @@ impl<B: Booked> Turn<B> {
         // `known` of the seat that comes back is how many numbers were given out.
         ensures out { IfErr result (λ f. (1 ≤ f.out) × (f.out + length (pairs_of seat) ≡ f.token.known)) }
         ensures back { IfErr result (λ f. (f.whole ≡ self) × (f.token ≡ after_look f.token.seen f.token.known seat)) }
-        ensures numbers { IfErr result (λ f. (seat.known ≤ f.token.known) × HasNumbersBelow f.token.known seat × HasDistinctNumbers seat) }
+        ensures numbers { IfErr result (λ f. (seat.known ≤ f.token.known) × HasNumbersBelow f.token.known seat
+            × HasDistinctNumbers seat) }
 
         // What it has newly seen are entries of others.
-        ensures seen { IfErr result (λ f. IsPrefix seat.seen f.token.seen × HasPlacesIn B.who f.token.seen seat × IsExact B.who seat) }
+        ensures seen { IfErr result (λ f. IsPrefix seat.seen f.token.seen × HasPlacesIn B.who f.token.seen seat
+            × IsExact B.who seat) }
     {
         let Turn { table } = self;
         let Seat {

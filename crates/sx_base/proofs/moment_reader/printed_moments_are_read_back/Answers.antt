@@ -1,9 +1,9 @@
 use Rattle.std.proofs.Common.{◌≡◌, ℕ, ◌≤◌, List, [], ◌++◌, Result, Ok, Err, sym, ap, ◌∙◌}
 use Rattle.std.proofs.lemmas.Bool.{cases_eq}
 use Rattle.sx_text.proofs.Laws.{one_text}
-use Rattle.sx_base.specs.MomentTexts.{greatest_written, fields_text, fields_of, IsMomentText}
-use Rattle.sx_base.specs.MomentFields.{IsFields, fields_at}
-use Rattle.sx_base.specs.MomentsRead.{ReadsMoment}
+use Rattle.sx_base.specs.Moment.{greatest_written, fields_text, fields_of, IsMomentText}
+use Rattle.sx_base.specs.MomentReader.{IsFields, fields_at}
+use Rattle.sx_base.specs.MomentReader.{ReadsMoment}
 use Rattle.sx_base.specs.declared.moment_reader.BadMoment.{BadMoment}
 use Rattle.sx_base.proofs.CivilFields.{moment_fields, same_moment}
 use Rattle.sx_base.proofs.MomentReading.{fields-reading}

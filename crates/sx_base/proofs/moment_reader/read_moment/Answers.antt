@@ -2,19 +2,12 @@ use Rattle.std.proofs.Common.{ℕ, ◌-◌, List, length, refl, sym, ap, ◌∙�
 use Rattle.std.proofs.lemmas.Bool.{cases_eq}
 use Rattle.sx_text.specs.Texts.{IsNoText}
 use Rattle.sx_text.proofs.Laws.{rest_within, left_within, is_whole, has_more, is_left}
-use Rattle.sx_base.specs.MomentTexts.{fields_text, fields_of, moment_text, IsMoment}
-use Rattle.sx_base.specs.MomentFields.{IsFields, fields_at}
+use Rattle.sx_base.specs.Moment.{fields_text, fields_of, moment_text, IsMoment}
+use Rattle.sx_base.specs.MomentReader.{IsFields, fields_at}
 use Rattle.sx_base.proofs.CivilFields.{moment_fields, fields_moment}
 use Rattle.sx_base.proofs.MomentReading.{fields-reading}
-use Rattle.sx_base.proofs.SameForms.{no_text}
+use Rattle.sx_base.proofs.MomentForms.{no_moment}
 use Rattle.sx_base.proofs.moment_reader.read_moment.Goals as goal
-
-no_moment : (bytes : List ℕ) (n : ℕ) → IsNoText fields_text IsFields bytes n → IsNoText moment_text IsMoment bytes n
-no_moment bytes n h =
-    no_text fields_text IsFields moment_text IsMoment
-    (λ m x. let dt = fields_moment m x in (dt.0, dt.1, ap fields_text dt.2))
-    (λ dt x. (fields_of dt, moment_fields dt x, refl))
-    bytes n h
 
 pub moment_with-requires : goal.moment_with-requires
 moment_with-requires c = (is_whole cases_eq fields_text IsFields fields_at c.args.text.now c.in-Ok-default-empty.fields c.in-Ok-default-empty.field-0-1.now fields-reading c.in-Ok-default-empty.ensures c.in-Ok-default-empty.len_below).0

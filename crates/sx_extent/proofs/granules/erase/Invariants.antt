@@ -1,5 +1,5 @@
 use Rattle.std.proofs.Common.{◌-◌, ◌/◌, ◌≤◌}
-use Rattle.sx_extent.specs.GranuleMap.{IsSized}
+use Rattle.sx_extent.specs.Granules.{IsSized}
 use Rattle.sx_extent.proofs.GranuleSteps.{IsErasedBelow}
 use Rattle.sx_extent.proofs.granules.erase.Given as goal
 

@@ -2,7 +2,7 @@ use Rattle.std.proofs.Common.{◌≡◌, ℕ}
 use Rattle.std.specs.Ordering.{nat_cmp}
 use Rattle.std.specs.BTreeMap.Range.{IsInRange}
 use Rattle.std.specs.declared.ops.Bound.TheVariants.{Included, Excluded}
-use Rattle.sx_extent.specs.GranuleMap.{granule_at}
+use Rattle.sx_extent.specs.Granules.{granule_at}
 use Rattle.sx_extent.proofs.GranuleLemmas.{in_range, from_range, has_none, has_some, none_before, if_none}
 use Rattle.sx_extent.proofs.granules.first_between.Goals as goal
 

@@ -1,7 +1,7 @@
 use Rattle.std.proofs.Common.{refl, not, ◌-◌, rules, tests}
 use Rattle.std.proofs.lemmas.Iterator.{items_from_collect, YieldsList-from_range}
 use Rattle.std.proofs.lemmas.Iterator.Consumers.{YieldsList-from_filter, YieldsList-at}
-use Rattle.sx_extent.specs.GranuleMap.{has_granule}
+use Rattle.sx_extent.specs.Granules.{has_granule}
 use Rattle.sx_extent.proofs.granules.missing_between.Goals as goal
 
 pub returns : goal.returns

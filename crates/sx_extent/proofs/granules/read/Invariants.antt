@@ -1,5 +1,5 @@
 use Rattle.std.proofs.Common.{◌≡◌, ◌-◌, ◌≤◌, length, take}
-use Rattle.sx_extent.specs.GranuleMap.{bytes_from}
+use Rattle.sx_extent.specs.Granules.{bytes_from}
 use Rattle.sx_extent.proofs.granules.read.Given as goal
 
 abbrev pub invariant-loop-done : goal.invariant-loop-done

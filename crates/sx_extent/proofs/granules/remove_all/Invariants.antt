@@ -1,6 +1,6 @@
 use Rattle.std.proofs.Common.{◌≡◌, ℕ, None, cond, eqb, take}
 use Rattle.std.specs.List.{list_any}
-use Rattle.sx_extent.specs.GranuleMap.{granule_at}
+use Rattle.sx_extent.specs.Granules.{granule_at}
 use Rattle.sx_extent.proofs.granules.remove_all.Given as goal
 
 abbrev pub invariant-loop-g : goal.invariant-loop-g

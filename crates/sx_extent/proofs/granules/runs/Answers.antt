@@ -5,8 +5,8 @@ use Rattle.std.specs.BTreeMap.Range.{entries_between, IsEntryInRange}
 use Rattle.std.specs.declared.ops.Bound.TheVariants.{Included, Excluded}
 use Rattle.std.proofs.lemmas.List.{append_assoc}
 use Rattle.std.proofs.lemmas.List.Elements.{All-weaker, All-head, All-rest, All-same}
-use Rattle.sx_extent.specs.SparseFile.{joined, part_of_granule, touches}
-use Rattle.sx_extent.specs.GranuleMap.{Entries}
+use Rattle.sx_extent.specs.Ranges.{joined, part_of_granule, touches}
+use Rattle.sx_extent.specs.Granules.{Entries}
 use Rattle.sx_extent.proofs.GranuleLemmas.{from_range}
 use Rattle.sx_extent.proofs.GranuleSteps.{touches_between}
 use Rattle.sx_extent.proofs.SpanLemmas.{parts-push}

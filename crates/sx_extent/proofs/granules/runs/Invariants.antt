@@ -4,8 +4,8 @@ use Rattle.std.specs.Map.{keys_of}
 use Rattle.std.specs.Ordering.{nat_cmp}
 use Rattle.std.specs.BTreeMap.Range.{entries_between}
 use Rattle.std.specs.declared.ops.Bound.TheVariants.{Included, Excluded}
-use Rattle.sx_extent.specs.SparseFile.{joined, part_of_granule, touches}
-use Rattle.sx_extent.specs.GranuleMap.{Entries}
+use Rattle.sx_extent.specs.Ranges.{joined, part_of_granule, touches}
+use Rattle.sx_extent.specs.Granules.{Entries}
 use Rattle.sx_extent.proofs.granules.runs.Given as goal
 
 abbrev pub invariant-loop-g : goal.invariant-loop-g

@@ -1,5 +1,5 @@
 use Rattle.std.proofs.Common.{◌-◌, ◌≤◌, length, take}
-use Rattle.sx_extent.specs.GranuleMap.{IsWritten, IsSized}
+use Rattle.sx_extent.specs.Granules.{IsWritten, IsSized}
 use Rattle.sx_extent.proofs.granules.write.Given as goal
 
 abbrev pub invariant-loop-done : goal.invariant-loop-done

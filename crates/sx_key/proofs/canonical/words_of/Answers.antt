@@ -1,12 +1,12 @@
 use Rattle.std.proofs.Common.{rules, tests}
 use Rattle.std.proofs.lemmas.Iterator.Consumers.{map_from_collect, YieldsList-from_filter, YieldsList-at}
 use Rattle.std.proofs.lemmas.Iterator.Splits.{YieldsList-from_slice_split}
-use Rattle.sx_key.specs.Signature.{is_blank, is_not_empty}
+use Rattle.sx_key.specs.Signature.{is_space_or_tab, is_not_empty}
 use Rattle.sx_key.proofs.canonical.words_of.Goals as goal
 
 pub returns : goal.returns
 returns c = map_from_collect _ c.collect.ensures.ran
     (YieldsList-from_filter _ is_not_empty
     (YieldsList-at c.filter.ensures.source
-    (YieldsList-from_slice_split _ is_blank c.args.text.now c.split.ensures.rest c.split.ensures.done c.split.ensures.closure (λ x r q k. search (rules, tests))))
+    (YieldsList-from_slice_split _ is_space_or_tab c.args.text.now c.split.ensures.rest c.split.ensures.done c.split.ensures.closure (λ x r q k. search (rules, tests))))
     c.filter.ensures.closure (λ x b q k. search (rules, tests)))

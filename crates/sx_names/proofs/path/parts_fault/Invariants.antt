@@ -1,5 +1,5 @@
 use Rattle.std.proofs.Common.{◌≡◌, drop}
-use Rattle.sx_names.specs.Rules.{parts_fault}
+use Rattle.sx_names.specs.Fault.{parts_fault}
 use Rattle.sx_names.proofs.path.parts_fault.Given as goal
 
 -- the parts so far break no rule

@@ -1,7 +1,7 @@
 use Rattle.std.proofs.Common.{arith, ℕ, ◌≡◌, ◌<◌, ◌==◌, Bool, List, length, sym, ap, ◌∙◌}
 use Rattle.std.specs.List.{count_by}
 use Rattle.std.proofs.lemmas.List.Splits.{length-slice_split}
-use Rattle.sx_smb_door.specs.Spelling.{words_of, without_return}
+use Rattle.sx_smb_door.specs.Parse.{words_of, without_return}
 use Rattle.sx_smb_door.proofs.SessionCalls.{too_many}
 use Rattle.sx_smb_door.proofs.parse.call_of_line.Goals as goal
 

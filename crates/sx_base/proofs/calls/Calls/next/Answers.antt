@@ -1,7 +1,7 @@
 use Rattle.std.proofs.Common.{◌≡◌, ◌+◌, true, false, subst, refl, sym, ap, ◌∙◌}
 use Rattle.std.specs.Prelude.{List, ℕ}
 use Rattle.std.proofs.Math.Nat.{add-zero}
-use Rattle.sx_base.specs.FailingCalls.{CallCounts, FailsAsListed, as_listed_none, lists}
+use Rattle.sx_base.specs.Calls.{CallCounts, FailsAsListed, as_listed_none, lists}
 use Rattle.sx_base.proofs.Calling.{one_call}
 use Rattle.sx_base.proofs.calls.Calls.next.Goals as goal
 

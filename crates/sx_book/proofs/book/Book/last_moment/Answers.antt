@@ -1,8 +1,8 @@
 use Rattle.std.proofs.Common.{◌≡◌, ◌∙◌, ◌-◌, sym, ap, length, Some, arith}
 use Rattle.std.specs.List.{slice_get}
-use Rattle.sx_spec.specs.Account.{empty}
-use Rattle.sx_spec.specs.History.{History, last_moment}
-use Rattle.sx_spec.proofs.Histories.{moment_last, moment_clock}
+use Rattle.sx_stage_spec.specs.Account.{empty}
+use Rattle.sx_stage_spec.specs.History.{History, last_moment}
+use Rattle.sx_stage_spec.proofs.Histories.{moment_last, moment_clock}
 use Rattle.sx_book.proofs.book.Book.last_moment.Goals as goal
 
 pub returns-in-Some-clause-moment : goal.returns-in-Some-clause-moment

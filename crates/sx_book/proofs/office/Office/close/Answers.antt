@@ -1,6 +1,6 @@
 use Rattle.std.proofs.Common.{subst}
 use Rattle.sx_book.specs.Passes.{GrowsByOthers}
-use Rattle.sx_book.proofs.Entered.{others_found}
+use Rattle.sx_book.proofs.Appended.{others_found}
 use Rattle.sx_book.proofs.office.Office.close.Goals as goal
 
 pub returns-in-Err-clause-others : goal.returns-in-Err-clause-others

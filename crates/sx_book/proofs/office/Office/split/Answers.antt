@@ -1,6 +1,6 @@
 use Rattle.std.proofs.Common.{◌≡◌, ap, sym, ◌∙◌, subst}
 use Rattle.sx_book.specs.Passes.{GrowsByOthers, HoldsIn}
-use Rattle.sx_book.proofs.Entered.{others_found}
+use Rattle.sx_book.proofs.Appended.{others_found}
 use Rattle.sx_book.proofs.Lives.{held_among}
 use Rattle.sx_book.proofs.office.Office.split.Goals as goal
 use Rattle.sx_book.proofs.office.Office.split.Goals.{in-Ok, in-Err}

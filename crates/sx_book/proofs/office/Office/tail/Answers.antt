@@ -1,5 +1,5 @@
 use Rattle.sx_book.specs.Passes.{pass_view}
-use Rattle.sx_book.proofs.Entered.{others_found, looked}
+use Rattle.sx_book.proofs.Appended.{others_found, looked}
 use Rattle.sx_book.proofs.Held.{saw_keeps}
 use Rattle.sx_book.proofs.office.Office.tail.Goals as goal
 

@@ -1,5 +1,5 @@
 use Rattle.std.proofs.Common.{◌≡◌}
-use Rattle.sx_spec.specs.Account.{share_named}
+use Rattle.sx_stage_spec.specs.Account.{share_named}
 use Rattle.sx_book.proofs.state.State.locate.Given as goal
 
 abbrev pub invariant-loop-number : goal.invariant-loop-number

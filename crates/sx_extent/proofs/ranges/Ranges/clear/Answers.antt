@@ -1,5 +1,5 @@
 use Rattle.std.proofs.Common.{◌≡◌, ◌∙◌, ap, arith, length}
-use Rattle.sx_extent.specs.SparseFile.{clear}
+use Rattle.sx_extent.specs.Ranges.{clear}
 use Rattle.sx_extent.proofs.FileLemmas.{self_length, file_cleared, kept_cleared}
 use Rattle.sx_extent.proofs.ranges.Ranges.clear.Goals as goal
 

@@ -1,7 +1,6 @@
-use Rattle.std.proofs.Common.{◌≡◌, ◌≤◌, ◌+◌, ◌-◌, ◌/◌, ap, arith, length}
-use Rattle.sx_extent.specs.SparseFile.{fresh}
-use Rattle.sx_extent.specs.GranuleMap.{file_of}
-use Rattle.sx_extent.proofs.FileLemmas.{self_length}
+use Rattle.std.proofs.Common.{◌≡◌, ◌≤◌, ◌+◌, ◌-◌, ◌/◌, ap, arith}
+use Rattle.sx_extent.specs.Ranges.{fresh}
+use Rattle.sx_extent.specs.Granules.{file_of}
 use Rattle.sx_extent.proofs.GranuleSteps.{past_first}
 use Rattle.sx_extent.proofs.KeyLemmas.{fresh_is}
 use Rattle.sx_extent.proofs.ranges.Ranges.fresh.Goals as goal
@@ -9,8 +8,7 @@ use Rattle.sx_extent.proofs.ranges.Ranges.fresh.Goals as goal
 -- the marked granules and the fresh ones are those that the interval touches
 counted : (c : goal.After-count_between) → c.count_between.result + fresh c.args.self.now c.args.from c.args.end ≡ c.past_of-past.result - c.args.from / 512
 counted c =
-    let n : length c.args.self.now.bytes ≡ c.self.inside.length = self_length _ _ _ c.self.view_is in
-    let h = fresh_is c.self.inside.length c.self.inside.granules.entries c.args.from c.args.end c.past_of-past.result c.self.invariant c.count_between.ensures.ordered c.requires.order (omega arith) c.past_of-past.ensures in
+    let h = fresh_is c.self.inside.length c.self.inside.granules.entries c.args.from c.args.end c.past_of-past.result c.self.invariant c.count_between.ensures.ordered c.requires.order c.requires.limit c.past_of-past.ensures in
     let v : fresh (file_of c.self.inside.length c.self.inside.granules.entries) c.args.from c.args.end ≡ fresh c.args.self.now c.args.from c.args.end = ap (λ f. fresh f c.args.from c.args.end) c.self.view_is in
     omega arith
 

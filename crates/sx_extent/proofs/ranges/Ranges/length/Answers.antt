@@ -1,5 +1,5 @@
 use Rattle.std.proofs.Common.{sym, subst}
-use Rattle.sx_extent.specs.SparseFile.{SparseFile, IsWellFormed}
+use Rattle.sx_extent.specs.Ranges.{SparseFile, IsWellFormed}
 use Rattle.sx_extent.proofs.FileLemmas.{self_length, file_whole}
 use Rattle.sx_extent.proofs.ranges.Ranges.length.Goals as goal
 

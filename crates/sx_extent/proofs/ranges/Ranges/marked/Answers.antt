@@ -1,6 +1,6 @@
 use Rattle.std.proofs.Common.{◌≡◌, ◌≤◌, ◌∙◌, List, refl, sym, ap, subst, arith, length}
 use Rattle.std.specs.Result.{IfOk}
-use Rattle.sx_extent.specs.SparseFile.{Interval, listed, AreRuns}
+use Rattle.sx_extent.specs.Ranges.{Interval, listed, AreRuns}
 use Rattle.sx_extent.proofs.FileLemmas.{self_length}
 use Rattle.sx_extent.proofs.SpanLemmas.{listed_is, if_ok}
 use Rattle.sx_extent.proofs.RunLaws.{listed_runs}

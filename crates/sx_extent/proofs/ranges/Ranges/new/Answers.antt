@@ -1,5 +1,5 @@
 use Rattle.std.proofs.Common.{◌∙◌, ap}
-use Rattle.sx_extent.specs.GranuleMap.{file_of}
+use Rattle.sx_extent.specs.Granules.{file_of}
 use Rattle.sx_extent.proofs.FileLemmas.{file_blank, kept_blank}
 use Rattle.sx_extent.proofs.ranges.Ranges.new.Goals as goal
 

@@ -1,6 +1,6 @@
 use Rattle.std.proofs.Common.{◌≡◌, ◌+◌, ◌-◌, ◌∙◌, sym, ap, arith, length}
-use Rattle.sx_extent.specs.SparseFile.{cut}
-use Rattle.sx_extent.specs.GranuleMap.{bytes_from}
+use Rattle.sx_extent.specs.Ranges.{cut}
+use Rattle.sx_extent.specs.Granules.{bytes_from}
 use Rattle.sx_extent.proofs.FileLemmas.{self_length, cut_is}
 use Rattle.sx_extent.proofs.ranges.Ranges.read_into.Goals as goal
 

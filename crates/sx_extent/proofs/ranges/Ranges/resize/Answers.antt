@@ -1,5 +1,5 @@
 use Rattle.std.proofs.Common.{◌∙◌, ap}
-use Rattle.sx_extent.specs.SparseFile.{resize}
+use Rattle.sx_extent.specs.Ranges.{resize}
 use Rattle.sx_extent.proofs.FileLemmas.{file_resized, kept_resized}
 use Rattle.sx_extent.proofs.ranges.Ranges.resize.Goals as goal
 

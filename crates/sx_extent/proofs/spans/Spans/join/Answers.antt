@@ -1,6 +1,6 @@
 use Rattle.std.proofs.Common.{◌≡◌, ◌∙◌, ℕ, ◌+◌, ◌-◌, sym, ap, subst, arith, List, ◌∷◌, [], ◌++◌, eqb, true, set, length}
 use Rattle.std.proofs.lemmas.Bool.{eq-eqb, ne_eqb}
-use Rattle.sx_extent.specs.SparseFile.{Interval}
+use Rattle.sx_extent.specs.Ranges.{Interval}
 use Rattle.sx_extent.proofs.GranuleSteps.{on_ok}
 use Rattle.sx_extent.proofs.SpanLemmas.{joined-push, joined_after, after_apart, after_meeting, after_none}
 use Rattle.sx_extent.proofs.spans.Spans.join.Goals as goal

@@ -1,5 +1,5 @@
 use Rattle.std.proofs.Common.{◌∙◌, sym, ap, arith, length}
-use Rattle.sx_extent.specs.Views.{part}
+use Rattle.sx_extent.specs.View.{part}
 use Rattle.sx_extent.proofs.ViewLemmas.{part_is, view_length}
 use Rattle.sx_extent.proofs.view.View.read_into.Goals as goal
 

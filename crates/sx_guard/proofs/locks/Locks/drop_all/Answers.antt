@@ -1,6 +1,6 @@
 use Rattle.std.proofs.Common.{◌≡◌, Some, not, filter, rules}
 use Rattle.std.proofs.lemmas.Fn.{filter_same}
-use Rattle.sx_guard.specs.LockConflict.{is_held_by}
+use Rattle.sx_guard.specs.Locks.{is_held_by}
 use Rattle.sx_guard.proofs.Kept.{AreLocks-filter}
 use Rattle.sx_guard.proofs.locks.Locks.drop_all.Goals as goal
 

@@ -1,7 +1,7 @@
 use Rattle.std.proofs.Common.{subst, ◌∙◌, rules, tests}
 use Rattle.std.proofs.lemmas.Iterator.{YieldsList-from_slice}
 use Rattle.std.proofs.lemmas.Iterator.Search.{find_from_yields_List}
-use Rattle.sx_guard.specs.LockConflict.{AreLocks, forbids_write}
+use Rattle.sx_guard.specs.Locks.{AreLocks, forbids_write}
 use Rattle.sx_guard.proofs.Kept.{IsLeast-locks}
 use Rattle.sx_guard.proofs.locks.Locks.forbids_write.Goals as goal
 

@@ -1,5 +1,5 @@
 use Rattle.std.proofs.Common.{◌≡◌, Some, None, position, sym, ◌∙◌}
-use Rattle.sx_guard.specs.LockConflict.{is_lock}
+use Rattle.sx_guard.specs.Locks.{is_lock}
 use Rattle.sx_guard.proofs.Places.{place-Some, place-None, remove-place, remove_first-none}
 use Rattle.sx_guard.proofs.locks.Locks.unlock.Goals as goal
 

@@ -2,7 +2,7 @@ use Rattle.std.proofs.Common.{option_map, subst, ◌∙◌, ap, rules, tests}
 use Rattle.std.proofs.lemmas.Iterator.{YieldsList-from_slice}
 use Rattle.std.proofs.lemmas.Iterator.Search.{find_from_yields_List}
 use Rattle.sx_guard.specs.declared.sharing.Opened.{Opened}
-use Rattle.sx_guard.specs.ShareModes.{AreOpens, forbids}
+use Rattle.sx_guard.specs.Sharing.{AreOpens, forbids}
 use Rattle.sx_guard.proofs.Kept.{IsLeastHandle-first}
 use Rattle.sx_guard.proofs.Places.{option_map-found}
 use Rattle.sx_guard.proofs.sharing.Sharing.forbids.Goals as goal

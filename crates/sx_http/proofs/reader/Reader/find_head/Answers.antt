@@ -1,18 +1,29 @@
-use Rattle.std.proofs.Common.{◌≡◌, ◌<◌, ◌≤◌, ◌∙◌, length, ap, sym, subst, arith}
-use Rattle.sx_http.specs.Limits.{head_limit}
+use Rattle.std.proofs.Common.{◌≡◌, ◌<◌, ◌≤◌, ◌∙◌, true, false, length, ap, sym, subst, refl}
+use Rattle.sx_base.specs.Causes.{Rose}
 use Rattle.sx_http.specs.Readers.{Requests}
-use Rattle.sx_http.specs.Heads.{window, BeginsHead, MayHaveHead}
-use Rattle.sx_http.specs.Filling.{Stays, Stops}
-use Rattle.sx_http.specs.declared.next.Next.{Next}
+use Rattle.sx_http.specs.Heads.{head_window, BeginsHead, MayHaveHead}
+use Rattle.sx_http.specs.RequestStream.{NeedsMore}
+use Rattle.sx_http.specs.Filling.{Stays}
 use Rattle.httparse.specs.Grammar.{NeverHasRequest}
-use Rattle.sx_http.proofs.Answering.{stays_same, stops_more}
-use Rattle.sx_http.proofs.Reasons.{bad_head, head_long, head_lacks, judged}
+use Rattle.sx_http.proofs.Answering.{stays_same, stays_more}
+use Rattle.sx_http.proofs.Reasons.{bad_head, read_fault, judged, settles_stops}
+use Rattle.sx_http.proofs.Windows.{window_short}
 use Rattle.sx_http.proofs.reader.Reader.find_head.Goals as goal
+
+differ : true ≡ false → ⊥
+differ e = cc
+
+-- more was read only where it was wanted
+wanted : (old mid : Requests) → NeedsMore mid → (¬ (NeedsMore old) → mid ≡ old) → ¬ (NeedsMore old) → ⊥
+wanted old mid needs same none = none (subst NeedsMore (same none) needs)
 
 pub loop-head-init : goal.loop-head-init
 loop-head-init g c = record {
   stays = stays_same c.args.self.now (g.S.Source.left c.args.source.now);
-  later = omega arith;
+  count = refl;
+  unread = λ idle. (refl, refl);
+  end = λ e. absurd (differ (sym e));
+  open' = c.requires;
   step = g.met.S.Source.reads_none c.args.source.now;
 }
 
@@ -20,44 +31,79 @@ pub returns-in-Whole-clause-found : goal.returns-in-Whole-clause-found
 returns-in-Whole-clause-found g c =
     let l = g.S.Source.left c.args.source.now in
     let m = g.S.Source.left c.loop-head.source in
-    let P : Requests → Type 0 = λ r. Stays c.args.self.now r l m in
-    let Q : Requests → Type 0 = λ r. BeginsHead (window r.held) c.in-Whole.size c.in-Whole.head in
-    let at : c.given-at.result ≡ c.args.self.now.given = c.given-at.ensures ∙ ap (λ (r : Requests). r.given) c.loop-head.invariant.stays.rest in
-    judged c.judge.result c.in-Whole.head c.in-Whole.size c.given-at.result c.args.self.now c.parse.new.self l m (g.S.Source.read_count c.args.source.now) (g.S.Source.read_count c.loop-head.source) (subst P (sym c.parse.ensures.same) c.loop-head.invariant.stays) at (subst Q (sym c.parse.ensures.same) c.in-Whole.ensures.parsed) c.judge.ensures
+    let stays = subst (λ (r : Requests). Stays c.args.self.now r l m) (sym c.parse.ensures.same) c.loop-head.invariant.stays in
+    let begins = subst (λ (r : Requests). BeginsHead (head_window r.held) c.in-Whole.size c.in-Whole.head) (sym c.parse.ensures.same) c.in-Whole.ensures.parsed in
+    let at : c.self.inside.given ≡ c.args.self.now.given = ap (λ (r : Requests). r.given) c.self.view_is ∙ ap (λ (r : Requests). r.given) stays.rest in
+    judged c.judge.result c.in-Whole.head c.in-Whole.size c.self.inside.given c.args.self.now c.parse.new.self l m (g.S.Source.read_count c.args.source.now) (g.S.Source.read_count c.loop-head.source) c.loop-head.invariant.count stays c.parse.ensures.within at begins c.judge.ensures
 
 pub returns-in-Never-clause-found : goal.returns-in-Never-clause-found
 returns-in-Never-clause-found g c =
     let l = g.S.Source.left c.args.source.now in
     let m = g.S.Source.left c.loop-head.source in
-    let P : Requests → Type 0 = λ r. Stays c.args.self.now r l m in
-    let Q : Requests → Type 0 = λ r. NeverHasRequest (window r.held) in
-    let at : c.given-at.result ≡ c.args.self.now.given = c.given-at.ensures ∙ ap (λ (r : Requests). r.given) c.loop-head.invariant.stays.rest in
-    bad_head c.args.self.now c.parse.new.self l m (g.S.Source.read_count c.args.source.now) (g.S.Source.read_count c.loop-head.source) c.given-at.result (subst P (sym c.parse.ensures.same) c.loop-head.invariant.stays) at (subst Q (sym c.parse.ensures.same) c.in-Never.ensures.parsed)
+    let stays = subst (λ (r : Requests). Stays c.args.self.now r l m) (sym c.parse.ensures.same) c.loop-head.invariant.stays in
+    let never = subst (λ (r : Requests). NeverHasRequest (head_window r.held)) (sym c.parse.ensures.same) c.in-Never.ensures.parsed in
+    let at : c.self.inside.given ≡ c.args.self.now.given = ap (λ (r : Requests). r.given) c.self.view_is ∙ ap (λ (r : Requests). r.given) stays.rest in
+    bad_head c.args.self.now c.parse.new.self l m (g.S.Source.read_count c.args.source.now) (g.S.Source.read_count c.loop-head.source) c.self.inside.given c.loop-head.invariant.count stays c.parse.ensures.within at never
 
-pub returns-then-held-ge-HEAD_LIMIT-clause-found : goal.returns-then-held-ge-HEAD_LIMIT-clause-found
-returns-then-held-ge-HEAD_LIMIT-clause-found g c =
-    let l = g.S.Source.left c.args.source.now in
-    let m = g.S.Source.left c.loop-head.source in
-    let before = g.S.Source.read_count c.args.source.now in
-    let now = g.S.Source.read_count c.loop-head.source in
-    let P : Requests → Type 0 = λ r. Stays c.args.self.now r l m in
-    let Q : Requests → Type 0 = λ r. MayHaveHead (window r.held) in
-    let at : c.given-at.result ≡ c.args.self.now.given = c.given-at.ensures ∙ ap (λ (r : Requests). r.given) c.loop-head.invariant.stays.rest in
-    let size : length c.held.result.now ≡ length c.parse.new.self.held = ap length c.held.ensures.value in
-    let long : head_limit ≤ length c.parse.new.self.held = omega (arith, size, c.if-held-ge-HEAD_LIMIT.true) in
-    subst (λ (next : Next). Stops next c.args.self.now c.parse.new.self l m before now) (sym c.long_head.ensures)
-    (head_long c.args.self.now c.parse.new.self l m before now c.given-at.result (subst P (sym c.parse.ensures.same) c.loop-head.invariant.stays) at long (subst Q (sym c.parse.ensures.same) c.in-More.ensures.parsed))
-
-pub await_more-requires : goal.await_more-requires
-await_more-requires g c =
-    let Q : Requests → Type 0 = λ r. MayHaveHead (window r.held) in
-    let size : length c.held.result.now ≡ length c.parse.new.self.held = ap length c.held.ensures.value in
-    let short : length c.parse.new.self.held < head_limit = omega (arith, size, c.if-held-ge-HEAD_LIMIT.false) in
-    head_lacks c.parse.new.self.held short (subst Q (sym c.parse.ensures.same) c.in-More.ensures.parsed)
+pub settle-requires-clause-head : goal.settle-requires-clause-head
+settle-requires-clause-head g c = subst (λ (r : Requests). MayHaveHead (head_window r.held)) (sym c.parse.ensures.same) c.in-More.ensures.parsed
 
 pub returns-in-Some-clause-found : goal.returns-in-Some-clause-found
 returns-in-Some-clause-found g c =
     let l = g.S.Source.left c.args.source.now in
     let m = g.S.Source.left c.loop-head.source in
-    let P : Requests → Type 0 = λ r. Stays c.args.self.now r l m in
-    stops_more c.in-Some.next c.args.self.now c.parse.new.self c.await_more.new.self l m (g.S.Source.left c.await_more.new.source) (g.S.Source.read_count c.args.source.now) (g.S.Source.read_count c.loop-head.source) (g.S.Source.read_count c.await_more.new.source) (subst P (sym c.parse.ensures.same) c.loop-head.invariant.stays) c.loop-head.invariant.later c.in-Some.ensures.waited
+    let stays = subst (λ (r : Requests). Stays c.args.self.now r l m) (sym c.parse.ensures.same) c.loop-head.invariant.stays in
+    settles_stops c.in-Some.next c.loop-head.ended c.args.self.now c.parse.new.self l m (g.S.Source.read_count c.args.source.now) (g.S.Source.read_count c.loop-head.source) c.loop-head.invariant.count stays c.loop-head.invariant.end c.in-Some.ensures
+
+pub loop-head-preserved-in-More-await_line : goal.loop-head-preserved-in-More-await_line
+loop-head-preserved-in-More-await_line g c =
+    let l = g.S.Source.left c.args.source.now in
+    let m = g.S.Source.left c.loop-head.source in
+    let n = g.S.Source.left c.await_line.new.source in
+    let stays = subst (λ (r : Requests). Stays c.args.self.now r l m) (sym c.parse.ensures.same) c.loop-head.invariant.stays in
+    let awaited = c.in-More-await_line.ensures.awaited in
+    record {
+      stays = stays_more c.args.self.now c.parse.new.self c.await_line.new.self l m n stays awaited.0;
+      count = awaited.2 ∙ c.loop-head.invariant.count;
+      unread = λ idle. absurd (wanted c.args.self.now c.parse.new.self c.in_default.ensures.1 (λ none. c.parse.ensures.same ∙ (c.loop-head.invariant.unread none).1) idle);
+      end = λ e. absurd (differ (sym e ∙ c.in_default.ensures.0));
+      open' = c.in-More-await_line.ensures.open;
+      step = g.met.S.Source.reads_more c.args.source.now c.loop-head.source c.await_line.new.source c.loop-head.invariant.step c.in-More-await_line.ensures.step;
+    }
+
+pub loop-head-preserved : goal.loop-head-preserved
+loop-head-preserved g c =
+    let l = g.S.Source.left c.args.source.now in
+    let m = g.S.Source.left c.loop-head.source in
+    let n = g.S.Source.left c.await_line.new.source in
+    let stays = subst (λ (r : Requests). Stays c.args.self.now r l m) (sym c.parse.ensures.same) c.loop-head.invariant.stays in
+    let awaited = c.in-End.ensures.awaited in
+    record {
+      stays = stays_more c.args.self.now c.parse.new.self c.await_line.new.self l m n stays awaited.0;
+      count = awaited.3 ∙ c.loop-head.invariant.count;
+      unread = λ idle. absurd (wanted c.args.self.now c.parse.new.self c.in_default.ensures.1 (λ none. c.parse.ensures.same ∙ (c.loop-head.invariant.unread none).1) idle);
+      end = λ e. awaited.2;
+      open' = c.in-End.ensures.open;
+      step = g.met.S.Source.reads_more c.args.source.now c.loop-head.source c.await_line.new.source c.loop-head.invariant.step c.in-End.ensures.step;
+    }
+
+pub returns-in-ReadFault-clause-found : goal.returns-in-ReadFault-clause-found
+returns-in-ReadFault-clause-found g c =
+    let l = g.S.Source.left c.args.source.now in
+    let m = g.S.Source.left c.loop-head.source in
+    let n = g.S.Source.left c.await_line.new.source in
+    let stays = subst (λ (r : Requests). Stays c.args.self.now r l m) (sym c.parse.ensures.same) c.loop-head.invariant.stays in
+    let awaited = c.in-ReadFault.ensures.awaited in
+    let may = subst (λ (r : Requests). MayHaveHead (head_window r.held)) (sym c.parse.ensures.same) c.in-More.ensures.parsed in
+    let all = subst MayHaveHead (window_short c.parse.new.self.held c.in_default.ensures.2) may in
+    let rose = read_fault c.args.self.now c.parse.new.self c.await_line.new.self l n (g.S.Source.read_count c.loop-head.source) (g.S.Source.read_count c.await_line.new.source)
+    (stays_more c.args.self.now c.parse.new.self c.await_line.new.self l m n stays awaited.0) all awaited.1 awaited.2 in
+    record { stays = rose.stays; because = rose.because; count = subst (λ k. Rose k (g.S.Source.read_count c.await_line.new.source)) c.loop-head.invariant.count rose.count }
+
+pub returns-in-ReadFault-clause-unread : goal.returns-in-ReadFault-clause-unread
+returns-in-ReadFault-clause-unread g c none =
+    absurd (wanted c.args.self.now c.parse.new.self c.in_default.ensures.1 (λ none. c.parse.ensures.same ∙ (c.loop-head.invariant.unread none).1) none)
+
+pub returns-in-NoMemory-await_line-clause-unread : goal.returns-in-NoMemory-await_line-clause-unread
+returns-in-NoMemory-await_line-clause-unread g c none =
+    absurd (wanted c.args.self.now c.parse.new.self c.in_default.ensures.1 (λ none. c.parse.ensures.same ∙ (c.loop-head.invariant.unread none).1) none)

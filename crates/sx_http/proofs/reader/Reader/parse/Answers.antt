@@ -1,10 +1,13 @@
-use Rattle.std.proofs.Common.{ℕ, List, drop, subst}
-use Rattle.sx_http.specs.Heads.{window, IsParsed}
+use Rattle.std.proofs.Common.{◌≡◌, ◌∙◌, ◌++◌, [], ap, sym, List, ℕ, subst}
+use Rattle.std.proofs.lemmas.List.{append-nil}
+use Rattle.sx_http.specs.Heads.{head_window, IsParsed}
 use Rattle.sx_http.specs.Readers.{Requests}
 use Rattle.sx_http.proofs.reader.Reader.parse.Goals as goal
 
 pub returns-clause-parsed : goal.returns-clause-parsed
 returns-clause-parsed c =
-    let P : List ℕ → Type 0 = λ bs. IsParsed (window (drop c.self.inside.start bs)) c.parse_front.result in
-    let Q : Requests → Type 0 = λ r. IsParsed (window r.held) c.parse_front.result in
-    subst Q c.self.view_is (subst P c.deref.ensures.value c.parse_front.ensures)
+    let none : c.self.inside.broken.items ≡ [] = c.self.invariant.1 (ap (λ (r : Requests). r.ended) c.self.view_is ∙ c.requires) in
+    let front : List ℕ = c.self.inside.buffer in
+    let held : front ≡ c.args.self.now.held =
+    sym (append-nil front) ∙ ap (λ (bs : List ℕ). front ++ bs) (sym none) ∙ ap (λ (r : Requests). r.held) c.self.view_is in
+    subst (λ (bs : List ℕ). IsParsed (head_window bs) c.parse_front.result) (c.held.ensures ∙ held) c.parse_front.ensures

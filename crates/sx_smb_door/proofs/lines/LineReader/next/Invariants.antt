@@ -1,15 +1,17 @@
-use Rattle.std.proofs.Common.{◌≤◌, ◌+◌, ◌-◌, length}
+use Rattle.std.proofs.Common.{◌≡◌, ◌+◌, ◌-◌, length}
 use Rattle.sx_smb_door.specs.Limits.{line_limit}
-use Rattle.sx_smb_door.specs.Lines.{BeginsUnended, Stays}
+use Rattle.sx_smb_door.specs.Lines.{BeginsUnended, KeepsStream}
+use Rattle.sx_smb_door.proofs.Answering.{ReadsWhereWanted}
 use Rattle.sx_smb_door.proofs.lines.LineReader.next.Given as goal
 
 -- nothing was given since the call's begin, and the bytes that were searched hold no line's end
 abbrev pub invariant-loop-next : goal.invariant-loop-next
 invariant-loop-next g l = record {
-  stays : Stays l.fn.self l.self (g.S.Source.left l.fn.source) (g.S.Source.left l.source);
+  stays : KeepsStream l.fn.self l.self (g.S.Source.left l.fn.source) (g.S.Source.left l.source);
   searched : BeginsUnended l.searched l.self.held;
-  later : g.S.Source.read_count l.fn.source ≤ g.S.Source.read_count l.source;
+  counted : g.S.Source.read_count l.source ≡ g.S.Source.read_count l.fn.source;
   step : g.S.Source.reads l.fn.source l.source;
+  unread : ReadsWhereWanted l.fn.source l.source l.fn.self l.self;
 }
 
 abbrev pub decreases-loop-next : goal.decreases-loop-next

@@ -1,5 +1,5 @@
 use Rattle.std.proofs.Common.{◌≡◌, drop}
-use Rattle.sx_tree.specs.Nodes.{walk, found_in}
+use Rattle.sx_tree.specs.Find.{walk, found_in}
 use Rattle.sx_tree.proofs.tree.Tree.find.Given as goal
 
 abbrev pub invariant-loop-name : goal.invariant-loop-name

@@ -27,7 +27,7 @@ take_in-requires-2-clause-idle g c κs within =
     let idle : c.seat.inside.place.me.0.turn ≡ None = ap (λ s. s.taken) c.seat.view_is ∙ c.requires.idle in
     let rest = idle_hands None c.seat.inside.place.me c.seat.invariant.1 idle in
     let e = c.draw_number-callers.ensures.drawn in
-    let none_left = e.6 c.if-callers-lt-SEATS.false in
+    let none_left = e.6 c.if-callers-lt-MAX_SEATS.false in
     let same = c.split_seat-place.ensures.2 in let kept = c.recall.ensures.me in (
       (c.seat.inside.number, ap (λ m. m.0.number) same ∙ (ap (λ m. m.0.number) kept ∙ c.seat.invariant.0)),
       ap (λ m. m.0.ticket) same ∙ (ap (λ m. m.0.ticket) kept ∙ rest.0),

@@ -1,0 +1,170 @@
+//! What the tests of the office share: an office, its first calls and its close.
+ghost use Rattle.std.specs.Prelude.{◌≡◌};
+ghost use Rattle.sx_book.specs.Passes.{HoldsSession, IsSamePass, KeepsSessions};
+
+use std::alloc::Global;
+use std::process::Abort;
+use std::sync::Wait;
+use sx_base::Items;
+use sx_book::{Book, Office, Pass, Receipt, Session, Stop};
+use sx_names::{Part, Path, Quota, ShareName};
+use sx_stage_call::{Access, Call, How, Mode, Noted, Reply, SmbReply};
+
+pub(crate) const NOW: u64 = 16_409_952_000_000_000;
+
+pub(crate) fn begun(rt: &impl Abort, alloc: Global, limit: u32) -> (Office, Pass)
+    ensures { result.1.office ≡ result.0 }
+{
+    match Office::begin(alloc, limit) {
+        Ok(made) => made,
+        Err(_) => panic!(rt; "no memory"),
+    }
+}
+
+pub(crate) fn share_name(rt: &impl Abort, alloc: Global) -> ShareName {
+    match ShareName::read(alloc, b"data") {
+        Ok(name) => name,
+        Err(_) => panic!(rt; "no name"),
+    }
+}
+
+// Asks Create Share of `data`, with the random number 17.
+pub(crate) fn create<R: Abort + Wait>(
+    rt: &R,
+    alloc: Global,
+    office: &Office,
+    pass: &mut Pass,
+) -> Result<Receipt, Stop>
+    requires own { pass.old.office ≡ office.now }
+    ensures held { KeepsSessions pass.old pass.new }
+    ensures same { IsSamePass pass.old pass.new }
+{
+    let call = Call::CreateShare {
+        share: share_name(rt, alloc),
+        quota: Quota::of(5120),
+    };
+    office.ask(rt, pass, NOW, 17, None, call)
+}
+
+pub(crate) fn created<R: Abort + Wait>(
+    rt: &R,
+    alloc: Global,
+    office: &Office,
+    pass: &mut Pass,
+) -> Receipt
+    requires own { pass.old.office ≡ office.now }
+    ensures same { IsSamePass pass.old pass.new }
+{
+    match create(rt, alloc, office, pass) {
+        Ok(receipt) => receipt,
+        Err(_) => panic!(rt; "no place"),
+    }
+}
+
+pub(crate) fn started<R: Abort + Wait>(rt: &R, office: &Office, pass: &mut Pass) -> Session
+    requires own { pass.old.office ≡ office.now }
+    ensures held { HoldsSession pass.new result }
+    ensures same { IsSamePass pass.old pass.new }
+{
+    match office.start(rt, pass, NOW, 7) {
+        Ok((session, _)) => session,
+        Err(_) => panic!(rt; "no session"),
+    }
+}
+
+// The noted entries from a place on, at most so many.
+pub(crate) fn tail_of<R: Abort + Wait>(
+    rt: &R,
+    alloc: Global,
+    office: &Office,
+    pass: &mut Pass,
+    from: u64,
+    most: u64,
+) -> Items<Noted>
+    requires own { pass.old.office ≡ office.now }
+    ensures held { KeepsSessions pass.old pass.new }
+    ensures same { IsSamePass pass.old pass.new }
+{
+    match office.tail(rt, alloc, pass, from, most) {
+        Ok(entries) => entries,
+        Err(_) => panic!(rt; "no memory"),
+    }
+}
+
+pub(crate) fn split<R: Abort + Wait>(rt: &R, office: &Office, pass: &mut Pass) -> Pass
+    requires own { pass.old.office ≡ office.now }
+    ensures same { IsSamePass pass.old pass.new }
+    ensures new { result.office ≡ office.now }
+{
+    match office.split(rt, pass) {
+        Ok(new) => new,
+        Err(fault) => panic!(rt; "{fault:?}"),
+    }
+}
+
+pub(crate) fn closed<R: Abort + Wait>(rt: &R, office: Office, pass: Pass) -> Book
+    requires { pass.office ≡ office }
+{
+    match office.close(rt, pass) {
+        Ok(book) => book,
+        Err(fault) => panic!(rt; "{} out", Office::abandon(fault)),
+    }
+}
+
+// The path of a caller's file: the caller's number and the file's.
+pub(crate) fn file_path(alloc: Global, who: u32, file: u32) -> Option<Path> {
+    let Ok(name) = format!(in alloc; "{who}-{file}") else {
+        return None;
+    };
+    let Ok(part) = Part::read(alloc, name.as_bytes()) else {
+        return None;
+    };
+    let Ok(path) = Path::of_part(alloc, part) else {
+        return None;
+    };
+    Some(path)
+}
+
+// Makes a file of the pass's in one of its sessions. Answers whether it was made.
+pub(crate) fn make_file<R: Wait>(
+    rt: &R,
+    alloc: Global,
+    office: &Office,
+    pass: &mut Pass,
+    session: &Session,
+    file: u32,
+) -> bool
+    requires own { pass.old.office ≡ office.now }
+    requires held { HoldsSession pass.old session.now }
+    ensures held { HoldsSession pass.new session.now }
+    ensures same { IsSamePass pass.old pass.new }
+{
+    let Some(path) = file_path(alloc, pass.number(), file) else {
+        return false;
+    };
+    let Ok(share) = ShareName::read(alloc, b"data") else {
+        return false;
+    };
+    let call = Call::SmbOpen {
+        share,
+        path,
+        access: Access {
+            read: true,
+            write: true,
+            delete: false,
+        },
+        mode: Mode {
+            read: true,
+            write: true,
+            delete: true,
+        },
+        how: How::Create,
+    };
+    match office.ask(rt, pass, NOW, 17, Some(session), call) {
+        Ok(receipt) => matches!(
+            receipt.reply,
+            Reply::Smb(SmbReply::Opened { made: true, .. })
+        ),
+        Err(_) => false,
+    }
+}

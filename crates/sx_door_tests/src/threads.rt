@@ -1,0 +1,148 @@
+//! Two sessions at once, each on a thread of its own and over a link of its own, through one office.
+ghost use Rattle.std.specs.Prelude.{◌≡◌};
+
+use std::alloc::Global;
+use std::process::Abort;
+use std::sync::Wait;
+use std::thread::{Threads, join_mut};
+use sx_base::{MemLink, MemSink, MemSource, StepClock};
+use sx_book::{Book, ConnEnd, ConnReport, Office, Pass};
+use sx_names::ShareName;
+use sx_smb_door::serve_session;
+
+/// How many lines each session has, and how many bytes they are.
+const LINES: u64 = 50;
+
+const BYTES: u64 = 400;
+
+/// A session's pass and link, and its report once it was served.
+struct Lane {
+    pass: Pass,
+    link: MemLink,
+    report: Option<ConnReport>,
+}
+
+fn share(rt: &impl Abort, alloc: Global) -> ShareName {
+    match ShareName::read(alloc, b"data") {
+        Ok(name) => name,
+        Err(_) => panic!(rt; "no name"),
+    }
+}
+
+/// A link with fifty lines, each of which closes a handle that isn't there.
+fn link(rt: &impl Abort, alloc: Global, chunk: usize) -> MemLink {
+    let mut bytes = Vec::new(alloc);
+    for _ in 0..50u32 {
+        assert!(rt; bytes.extend_from_slice(b"close 1\n").is_ok());
+    }
+    MemLink {
+        source: MemSource::new(bytes, chunk, Vec::new(alloc)),
+        sink: MemSink::new(alloc, Vec::new(alloc)),
+        peer: 7,
+    }
+}
+
+fn begun(rt: &impl Abort, alloc: Global) -> (Office, Pass)
+    ensures { result.1.office ≡ result.0 }
+{
+    match Office::begin(alloc, 1_000) {
+        Ok(made) => made,
+        Err(_) => panic!(rt; "no memory"),
+    }
+}
+
+fn new_lane<R: Abort + Wait>(rt: &R, office: &Office, main: &mut Pass, link: MemLink) -> Lane
+    requires own { main.old.office ≡ office.now }
+    ensures same { main.new.office ≡ office.now }
+    ensures new { result.pass.office ≡ office.now }
+{
+    match office.split(rt, main) {
+        Ok(pass) => Lane {
+            pass,
+            link,
+            report: None,
+        },
+        Err(fault) => panic!(rt; "{fault:?}"),
+    }
+}
+
+/// Serves the lane's session.
+fn run_lane<R: Wait>(rt: &R, alloc: Global, office: &Office, share: &ShareName, lane: &mut Lane)
+    requires own { lane.old.pass.office ≡ office.now }
+    ensures same { lane.new.pass.office ≡ office.now }
+{
+    let mut clock = StepClock { at: 5, step: 1 };
+    let report = serve_session(
+        alloc,
+        rt,
+        office,
+        &mut lane.pass,
+        share,
+        &mut lane.link,
+        &mut clock,
+        1_000_000,
+    );
+    lane.report = Some(report);
+}
+
+/// Runs two lanes, each in a thread of its own.
+fn run_lanes<R: Threads + Wait + Sync>(
+    rt: &R,
+    alloc: Global,
+    office: &Office,
+    share: &ShareName,
+    first: &mut Lane,
+    second: &mut Lane,
+)
+    requires own { (first.old.pass.office ≡ office.now) × (second.old.pass.office ≡ office.now) }
+    ensures same { (first.new.pass.office ≡ office.now) × (second.new.pass.office ≡ office.now) }
+{
+    join_mut(
+        rt,
+        &mut || run_lane(rt, alloc, office, share, first),
+        &mut || run_lane(rt, alloc, office, share, second),
+    );
+}
+
+/// Meets the lane's pass, whose session answered all of its lines.
+fn land<R: Abort>(rt: &R, office: &Office, main: &mut Pass, lane: Lane)
+    requires own { (main.old.office ≡ office.now) × (lane.pass.office ≡ office.now) }
+    ensures same { main.new.office ≡ office.now }
+{
+    let Lane { pass, link, report } = lane;
+    office.meet(main, pass);
+    let wanted = ConnReport {
+        end: ConnEnd::Ended,
+        taken: BYTES,
+        asked: LINES,
+        full: None,
+        starved: false,
+    };
+    assert!(rt; report == Some(wanted));
+    let lines = link.sink.bytes().iter().filter(|b| **b == b'\n').count();
+    assert_eq!(rt; lines as u64, LINES);
+}
+
+fn closed<R: Abort + Wait>(rt: &R, office: Office, main: Pass) -> Book
+    requires { main.office ≡ office }
+{
+    match office.close(rt, main) {
+        Ok(book) => book,
+        Err(fault) => panic!(rt; "{} out", Office::abandon(fault)),
+    }
+}
+
+#[test]
+fn two_sessions_at_once(rt: HostRuntime) {
+    let alloc = rt.alloc();
+    let share = share(&rt, alloc);
+    let (office, mut main) = begun(&rt, alloc);
+    let mut first = new_lane(&rt, &office, &mut main, link(&rt, alloc, 3));
+    let mut second = new_lane(&rt, &office, &mut main, link(&rt, alloc, 64));
+    run_lanes(&rt, alloc, &office, &share, &mut first, &mut second);
+    land(&rt, &office, &mut main, first);
+    land(&rt, &office, &mut main, second);
+    let book = closed(&rt, office, main);
+    assert_eq!(rt; book.entries().len(), 104);
+    assert_eq!(rt; book.live(), 0);
+}

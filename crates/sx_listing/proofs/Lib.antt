@@ -1,0 +1,4 @@
+pub mod Bodies
+pub mod ErrorsRead
+pub mod Percents
+pub mod RangesRead

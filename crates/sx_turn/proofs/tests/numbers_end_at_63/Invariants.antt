@@ -1,5 +1,0 @@
-use Rattle.std.proofs.Common.{◌≡◌, None}
-use Rattle.sx_turn.proofs.tests.numbers_end_at_63.Given as goal
-
-abbrev pub invariant-loop-number : goal.invariant-loop-number
-invariant-loop-number g l = (l.main.turn ≡ l.turn) × (l.main.taken ≡ None)
