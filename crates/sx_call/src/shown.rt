@@ -53,7 +53,5 @@ impl Model for FilePart {
 
     ghost view = { λ p. record { from = p.from; length = p.length; whole = p.whole; view = p.view } };
 
-    ghost invariant = {
-        λ p. is_bytes_of_file (record { from = p.from; length = p.length; whole = p.whole; view = p.view }) ≡ true
-    };
+    ghost invariant = { λ p. is_bytes_of_file (record { from = p.from; length = p.length; whole = p.whole; view = p.view }) ≡ true };
 }

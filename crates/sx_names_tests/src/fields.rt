@@ -5,8 +5,8 @@ use std::alloc::Global;
 use std::process::Abort;
 use sx_base::Items;
 use sx_names::{
-    Content, ContentMd5, ContentText, HeaderText, Meta, MetaName, MetaPair, NameItem, NamesPage, PageSize, Quota,
-    Text,
+    Content, ContentMd5, ContentText, HeaderText, Meta, MetaName, MetaPair, NameItem, NamesPage,
+    PageSize, Quota, Text,
 };
 
 fn meta_name_row(rt: &impl Abort, alloc: Global, bytes: &[u8], named: bool) {

@@ -55,7 +55,14 @@ fn same_texts(rt: &impl Abort, alloc: Global, count: u32, part: &str, last: &str
     texts
 }
 
-fn long_row(rt: &impl Abort, alloc: Global, count: u32, part: &str, last: &str, broken: Option<NameFault>) {
+fn long_row(
+    rt: &impl Abort,
+    alloc: Global,
+    count: u32,
+    part: &str,
+    last: &str,
+    broken: Option<NameFault>,
+) {
     let texts = same_texts(rt, alloc, count, part, last);
     let read = Path::read(alloc, &texts);
     assert_eq!(rt; fault_of(rt, read), broken, "{count} parts to {last}");
@@ -96,7 +103,14 @@ fn same_parts(rt: &impl Abort, alloc: Global, count: u32, part: &str, last: &str
     parts
 }
 
-fn parts_row(rt: &impl Abort, alloc: Global, count: u32, part: &str, last: &str, broken: Option<NameFault>) {
+fn parts_row(
+    rt: &impl Abort,
+    alloc: Global,
+    count: u32,
+    part: &str,
+    last: &str,
+    broken: Option<NameFault>,
+) {
     let broken_by = match Path::of_parts(same_parts(rt, alloc, count, part, last)) {
         Ok(_) => None,
         Err(fault) => Some(fault),
