@@ -32,7 +32,7 @@ same_bytes xs ys differ e h = same_if xs ys (bytes_eq xs ys) (bytes_eq-Decides x
 apart : {N : Type 0} (r : Result N WordsFault) → r ≡ Err Unknown → r ≡ Err NoMemory → ⊥
 apart r a b = cc
 
--- bytes that are read but for want of memory are a name
+-- bytes that are read unless memory runs out are a name
 pub named_by : {N : Type 0} (r : Result N WordsFault) (b : Bool) → (b ≡ false → IsErrOf r Unknown) → IsErrOf r NoMemory → b ≡ true
 named_by r true h e = refl
 named_by r false h e = absurd (apart r (h refl) e)

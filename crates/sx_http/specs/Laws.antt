@@ -21,7 +21,7 @@ HeadsAreDetermined =
     (a b : Head) (text other rest more : List ℕ) → IsHead text a → IsHead other b → text ++ rest ≡ other ++ more
     → (text ≡ other) × (a ≡ b)
 
--- the answer is told of bytes: it is neither a failed read nor want of memory
+-- the answer is told of bytes: it is neither a failed read nor out of memory
 abbrev pub IsOfBytes : Next → Type 0
 IsOfBytes ReadFault = ⊥
 IsOfBytes NoMemory = ⊥

@@ -59,7 +59,7 @@ pub struct CloseFault<T, S> {
 
 impl<B: Booked> Turn<B> {
     /// A turn over a value, all of whose entries are of number 0, and the seat of that number.
-    /// For want of memory the value comes back.
+    /// Where memory runs out the value comes back.
     pub fn begin(alloc: Global, value: B) -> Result<(Turn<B>, Seat<B>), B>
         requires { AllByRecursion (λ e. B.who e ≡ 0) (B.stands value) }
         ensures ok { IfOk result (λ t. t.1 ≡ first_seat B.who t.0 (B.lasting value) (B.stands value)) }
