@@ -47,11 +47,11 @@ pub struct FilePart {
 
 impl Model for FilePart {
     ghost use Rattle.std.specs.Prelude.{◌≡◌, true};
-    ghost use Rattle.sx_call.specs.Shown.{BytesOfFile, is_bytes_of_file};
+    ghost use Rattle.sx_call.specs.Shown.{BytesOfFile, bytes_from, is_bytes_of_file};
 
     ghost Value = { BytesOfFile };
 
-    ghost view = { λ p. record { from = p.from; length = p.length; whole = p.whole; view = p.view } };
+    ghost view = { λ p. bytes_from p.from p.length p.whole p.view };
 
-    ghost invariant = { λ p. is_bytes_of_file (record { from = p.from; length = p.length; whole = p.whole; view = p.view }) ≡ true };
+    ghost invariant = { λ p. is_bytes_of_file (bytes_from p.from p.length p.whole p.view) ≡ true };
 }
