@@ -1,7 +1,9 @@
 //! Worked examples: which number is read, or how many bytes are left where reading stops.
 use std::alloc::Global;
 use std::process::Abort;
-use sx_text::{Fault, Unread, digits_behind, escaped_text, literal, number};
+use sx_text::{
+    Fault, Unread, digits_behind, escaped_text, hex_digits_behind, literal, next_is, number,
+};
 
 /// A number from 5 to 120 and a `<` behind it: the number and how many bytes are left, or how many are left at the
 /// fault.
@@ -58,6 +60,40 @@ fn reads_digits_within_limits(rt: HostRuntime) {
         let found = digits_behind(*text, b"-", 1, 1, 31).map(|x| (x.0, x.1.len()));
         assert_eq!(rt; found, Err(Unread { left: *left }));
     }
+}
+
+/// A `0x`, and sixteen hexadecimal digits with letters in upper case behind it.
+#[test]
+fn reads_hexadecimal_digits(rt: HostRuntime) {
+    let read: [(&[u8], u64, usize); 3] = [
+        (b"0x000000000000002A", 42, 0),
+        (b"0x00000000DEADBEEF\"", 3_735_928_559, 1),
+        (b"0xFFFFFFFFFFFFFFFFF", 0xFFFF_FFFF_FFFF_FFFF, 1),
+    ];
+    for (text, value, left) in read.iter() {
+        let found = hex_digits_behind(*text, b"0x", 15).map(|x| (x.0, x.1.len()));
+        assert_eq!(rt; found, Ok((*value, *left)));
+    }
+    let unread: [(&[u8], usize); 5] = [
+        (b"", 0),
+        (b"0X", 1),
+        (b"0x00000000000002A", 0),
+        (b"0x00000000deadbeef", 8),
+        (b"0x00:0", 2),
+    ];
+    for (text, left) in unread.iter() {
+        let found = hex_digits_behind(*text, b"0x", 15).map(|x| (x.0, x.1.len()));
+        assert_eq!(rt; found, Err(Unread { left: *left }));
+    }
+}
+
+/// Whether a byte is next, where there is one.
+#[test]
+fn tells_the_next_byte(rt: HostRuntime) {
+    let empty: &[u8] = b"";
+    assert_eq!(rt; next_is(b"File>", b'F'), Ok(true));
+    assert_eq!(rt; next_is(b"Directory>", b'F'), Ok(false));
+    assert_eq!(rt; next_is(empty, b'F'), Err(Unread { left: 0 }));
 }
 
 /// A literal is taken from the front, or is left from its first byte that differs.

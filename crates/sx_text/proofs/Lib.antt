@@ -3,6 +3,9 @@ pub mod Laws
 pub mod Literals
 pub mod Loops
 pub mod Values
+pub mod Choices
+pub mod HexDigits
+pub mod NameTexts
 pub mod Machines
 pub mod Numbers
 pub mod FixedDigits

@@ -3,6 +3,8 @@ pub mod Readers
 pub mod Machines
 pub mod Numbers
 pub mod Digits
+pub mod Hex
+pub mod Named
 pub mod Escapes
 pub mod Given
 pub mod Letters

@@ -1,5 +1,6 @@
 -- Readers made of readers. An `Err` goes through each of them unchanged, since it tells how many items are left.
 use Rattle.std.specs.Prelude.{◌≡◌, ℕ, zero, suc, ◌+◌, List, [], ◌∷◌, ◌++◌, length, Result, Ok, Err, ◌==◌, if◌then◌else◌}
+use Rattle.std.specs.Prelude.{Bool}
 use Rattle.sx_text.specs.Texts.{Reader}
 
 -- what is read, and then the next
@@ -49,6 +50,19 @@ values_text text stop (x ∷ xs) = text x ++ values_text text stop xs
 -- no value's text is empty or begins with the byte
 abbrev pub IsNoStart : {A : Type 0} → (A → List ℕ) → (A → Type 0) → ℕ → Type 0
 IsNoStart {A} text Fits stop = (a : A) → Fits a → (b : ℕ) × (more : List ℕ) × (text a ≡ b ∷ more) × (b ≡ stop → ⊥)
+
+-- each value's text begins with the byte
+abbrev pub IsStart : {A : Type 0} → (A → List ℕ) → (A → Type 0) → ℕ → Type 0
+IsStart {A} text Fits start = (a : A) → Fits a → (more : List ℕ) × (text a ≡ start ∷ more)
+
+-- whether this byte stands at the front
+abbrev pub next_is_at : ℕ → List ℕ → Result Bool ℕ
+next_is_at start [] = Err 0
+next_is_at start (b ∷ bs) = Ok (b == start)
+
+-- a value of one form where this byte stands at the front, and else of another form
+unfoldable pub either_at : {A : Type 0} → ℕ → Reader ℕ A → Reader ℕ A → Reader ℕ A
+either_at start first second bytes = next_is_at start bytes >>= λ is. if is then first bytes else second bytes
 
 -- all of the items
 abbrev pub whole_of : {A E : Type 0} → Reader E A → List E → Result A ℕ

@@ -1,5 +1,5 @@
 -- What a digit of the code does, as a step.
-use Rattle.std.specs.Prelude.{ℕ, ◌-◌, ◌<◌, Option, Some}
+use Rattle.std.specs.Prelude.{ℕ, zero, suc, ◌+◌, ◌-◌, ◌*◌, ◌^◌, ◌<◌, Option, Some}
 use Rattle.sx_text.specs.declared.digit.Digit.{Digit}
 use Rattle.sx_text.specs.declared.digit.Digit.TheVariants as digits
 use Rattle.sx_text.specs.Machines.{Step, Ends, Goes, Fails}
@@ -21,3 +21,14 @@ abbrev pub IsBelow : Digit → ℕ → Type 0
 IsBelow (digits.Last value) n = Unit {0}
 IsBelow (digits.More value) n = value < n
 IsBelow digits.Wrong n = Unit {0}
+
+-- behind these hexadecimal digits one digit and so many more fit into 64 bits
+unfoldable pub HasRoom : ℕ → ℕ → Type 0
+HasRoom zero v = v < 2 ^ 60
+HasRoom (suc more) v = HasRoom more (16 * v + 15)
+
+-- the same behind the value so far
+abbrev pub LeavesRoom : ℕ → Digit → Type 0
+LeavesRoom more (digits.Last value) = Unit {0}
+LeavesRoom more (digits.More value) = HasRoom (more - 1) value
+LeavesRoom more digits.Wrong = Unit {0}

@@ -1,5 +1,5 @@
-//! Reading a literal.
-ghost use Rattle.sx_text.specs.Readers.{literal_at};
+//! Reading a literal, and looking at the byte in front.
+ghost use Rattle.sx_text.specs.Readers.{literal_at, next_is_at};
 ghost use Rattle.sx_text.specs.Given.{Reads};
 
 use crate::fault::Unread;
@@ -22,4 +22,14 @@ pub fn literal<'a>(bytes: &'a [u8], text: &[u8]) -> Result<&'a [u8], Unread>
         }
     }
     Ok(rest)
+}
+
+/// Whether `byte` is the next byte, which tells one of two forms from the other. Where there is none it is a fault.
+pub fn next_is(bytes: &[u8], byte: u8) -> Result<bool, Unread>
+    ensures { Reads (λ is. is) result (next_is_at byte bytes.now) }
+{
+    match bytes {
+        [] => Err(Unread { left: 0 }),
+        [first, ..] => Ok(*first == byte),
+    }
 }

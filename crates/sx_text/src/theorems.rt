@@ -1,14 +1,16 @@
 //! The laws of readers, as functions that do nothing.
-ghost use Rattle.std.specs.Prelude.{◌≡◌, ◌<◌, ◌≤◌, ◌^◌, ℕ, suc, List, true, false, ◌++◌, ◌⊎◌};
+ghost use Rattle.std.specs.Prelude.{◌≡◌, ◌<◌, ◌≤◌, ◌^◌, ℕ, suc, ◌+◌, List, Bool, true, false, ◌++◌, ◌⊎◌};
 ghost use Rattle.std.specs.Str.{is_utf8};
 ghost use Rattle.std.specs.List.{AllByRecursion};
 ghost use Rattle.sx_text.specs.Texts.{Reader, IsReading, IsWholeReading};
 ghost use Rattle.sx_text.specs.Readers.{after, pair_at, closed_at, made_at, all_values_at, values_text, IsNoStart};
-ghost use Rattle.sx_text.specs.Readers.{whole_of};
+ghost use Rattle.sx_text.specs.Readers.{whole_of, either_at, IsStart};
 ghost use Rattle.sx_text.specs.Machines.{Step, run_from, Leads, IsLive};
 ghost use Rattle.sx_text.specs.Numbers.{IsFrom, is_digit, number_text, number_at, number_after};
 ghost use Rattle.sx_text.specs.Escapes.{IsWhole, escaped, escaped_text, escaped_at, escaped_after};
 ghost use Rattle.sx_text.specs.Digits.{digits_text, digits_at, digits_after};
+ghost use Rattle.sx_text.specs.Hex.{hex_text, hex_at, hex_after};
+ghost use Rattle.sx_text.specs.Named.{IsNamed, AreApart, named_at};
 
 /// A form of text over items of type `E`: the text of each value, and the values that have one.
 pub trait Form<E> {
@@ -22,6 +24,15 @@ pub trait FormBehind<E, A> {
     ghost text: { A → Self → List E };
 
     ghost Fits: { A → Self → Type 0 };
+}
+
+/// Two forms of text of one type: the values that have a text of the first form, and those that have one of the second.
+pub trait TwoForms {
+    ghost text: { Self → List ℕ };
+
+    ghost First: { Self → Type 0 };
+
+    ghost Second: { Self → Type 0 };
 }
 
 /// The states of a machine: which of them are live.
@@ -67,6 +78,14 @@ pub fn values_are_read<A: Form<u8>>()
         → IsReading (values_text A.text stop) (AllByRecursion A.Fits) (all_values_at stop read) }
 {}
 
+/// The law of choices: of two forms the byte at the front tells, where each text of the first form begins with it, some
+/// value has such a text, and no text of the second form is empty or begins with it. It does nothing.
+pub fn choices_are_read<A: TwoForms>()
+    ensures { (start : ℕ) (first second : Reader ℕ A) → (a : A) → A.First a → IsStart A.text A.First start
+        → IsNoStart A.text A.Second start → IsReading A.text A.First first → IsReading A.text A.Second second
+        → IsReading A.text (λ a. A.First a ⊎ A.Second a) (either_at start first second) }
+{}
+
 /// The law of machines: a machine that starts in a live state reads exactly the items that lead to its end. It does
 /// nothing.
 pub fn machines_read<E, V: Form<E>, S: State>()
@@ -89,6 +108,21 @@ pub fn digits_are_read()
         → IsReading (digits_text (suc more)) (IsFrom low high) (digits_at more low high) }
     ensures behind { (literal : List ℕ) (more low high : ℕ) → low ≤ high → high < 10 ^ suc more
         → IsReading (λ n. literal ++ digits_text (suc more) n) (IsFrom low high) (digits_after literal more low high) }
+{}
+
+/// The law of hexadecimal digits: numbers of so many digits are read exactly. It does nothing.
+pub fn hex_digits_are_read()
+    ensures alone { (more : ℕ) → IsReading (hex_text (suc more)) (λ n. n < 16 ^ suc more) (hex_at more) }
+    ensures behind { (literal : List ℕ) (more : ℕ)
+        → IsReading (λ n. literal ++ hex_text (suc more) n) (λ n. n < 16 ^ suc more) (hex_after literal more) }
+{}
+
+/// The law of names: the names of the numbers that are allowed are read exactly, where no name stands at the place of
+/// another one and some number is allowed. It does nothing.
+pub fn names_are_read()
+    ensures { (name : ℕ → List ℕ) (is_allowed : ℕ → Bool) (count first : ℕ) → AreApart name first (first + count) → (n : ℕ)
+        → IsNamed is_allowed count first n
+        → IsReading name (IsNamed is_allowed count first) (named_at name is_allowed count first) }
 {}
 
 /// The law of escaped texts: texts of UTF-8 in which `&`, `<` and `>` are escaped are read exactly, with the `<`
