@@ -1,12 +1,12 @@
 pub mod Buffers
+pub mod Calendars
 pub mod Calling
 pub mod CivilFields
 pub mod Firsts
-pub mod MomentForms
+pub mod MomentFields
 pub mod MomentReading
 pub mod Steps
 pub mod Printing
-pub mod SameForms
 pub mod Streams
 pub mod Writing
 pub mod Years

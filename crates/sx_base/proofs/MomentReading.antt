@@ -1,5 +1,5 @@
 -- The texts of moments are read exactly, by their fields.
-use Rattle.std.proofs.Common.{codes, ℕ, ◌≤◌, Bool, true, false, cond, eqb, ◌&&◌, ◌||◌, [], ◌++◌, arith, pos}
+use Rattle.std.proofs.Common.{codes, ℕ, ◌≤◌, Bool, true, false, cond, eqb, ◌&&◌, ◌||◌, List, [], ◌++◌, arith, pos}
 use Rattle.std.proofs.lemmas.Bool.{cases_eq}
 use Rattle.jiff.specs.Words.{days_in_month, is_leap_year}
 use Rattle.sx_text.specs.Readers.{pair_at}
@@ -60,13 +60,13 @@ day-reading k =
     (λ m q. (1, (omega arith, (day_most_is y m).0)))
     (λ m i q le. digits_after-reading (codes "-") 1 1 (day_most y m) (day_most_is y m).0 (omega (arith, (day_most_is y m).1)) i))
 
-time-reading : (d : Day) → Reads cases_eq time_text (IsTimeOfDay d) (time_at d)
+pub time-reading : (literal : List ℕ) (d : Day) → Reads cases_eq (time_text literal) (IsTimeOfDay d) (time_at literal d)
 unfolding time_at
-time-reading d k =
-    pair-reading cases_eq k (λ h. codes "T" ++ digits_text 2 h) (IsFrom 0 (hour_most d)) (digits_after (codes "T") 1 0 (hour_most d))
+time-reading literal d k =
+    pair-reading cases_eq k (λ h. literal ++ digits_text 2 h) (IsFrom 0 (hour_most d)) (digits_after literal 1 0 (hour_most d))
     (λ h ms. (codes ":" ++ digits_text 2 ms.0) ++ (codes ":" ++ digits_text 2 ms.1)) (λ h ms. IsFrom 0 (minute_most d h) ms.0 × IsFrom 0 (second_most d h ms.0) ms.1)
     (λ h. pair_at (digits_after (codes ":") 1 0 (minute_most d h)) (λ m. digits_after (codes ":") 1 0 (second_most d h m)))
-    (digits_after-reading (codes "T") 1 0 (hour_most d) (omega arith) (omega (arith, hour_most_is d)))
+    (digits_after-reading literal 1 0 (hour_most d) (omega arith) (omega (arith, hour_most_is d)))
     (λ h q. ((0, 0), ((omega arith, omega arith), (omega arith, omega arith))))
     (λ h j q le. pair-reading cases_eq j (λ m. codes ":" ++ digits_text 2 m) (IsFrom 0 (minute_most d h)) (digits_after (codes ":") 1 0 (minute_most d h))
     (λ m s. codes ":" ++ digits_text 2 s) (λ m s. IsFrom 0 (second_most d h m) s) (λ m. digits_after (codes ":") 1 0 (second_most d h m))
@@ -83,11 +83,11 @@ pub fields-reading : Reads cases_eq fields_text IsFields fields_at
 unfolding fields_at fields_text
 fields-reading k =
     pair-reading cases_eq k day_text IsDay day_at
-    (λ d tf. time_text tf.0 ++ ((codes "." ++ digits_text 7 tf.1) ++ codes "Z")) (λ d tf. IsTimeOfDay d tf.0 × IsFrom 0 (ticks_most d tf.0) tf.1)
-    (λ d. pair_at (time_at d) (λ t. ticks_at d t))
+    (λ d tf. time_text (codes "T") tf.0 ++ ((codes "." ++ digits_text 7 tf.1) ++ codes "Z")) (λ d tf. IsTimeOfDay d tf.0 × IsFrom 0 (ticks_most d tf.0) tf.1)
+    (λ d. pair_at (time_at (codes "T") d) (λ t. ticks_at d t))
     day-reading
     (λ d h. (((0, (0, 0)), 0), (((omega arith, omega arith), ((omega arith, omega arith), (omega arith, omega arith))), (omega arith, omega arith))))
-    (λ d j h le. pair-reading cases_eq j time_text (IsTimeOfDay d) (time_at d) (λ t f. (codes "." ++ digits_text 7 f) ++ codes "Z") (λ t f. IsFrom 0 (ticks_most d t) f) (λ t. ticks_at d t)
-    (time-reading d)
+    (λ d j h le. pair-reading cases_eq j (time_text (codes "T")) (IsTimeOfDay d) (time_at (codes "T") d) (λ t f. (codes "." ++ digits_text 7 f) ++ codes "Z") (λ t f. IsFrom 0 (ticks_most d t) f) (λ t. ticks_at d t)
+    (time-reading (codes "T") d)
     (λ t q. (0, (omega arith, omega arith)))
     (λ t i q le. ticks-reading d t i))

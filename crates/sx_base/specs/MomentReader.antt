@@ -1,14 +1,14 @@
 -- The fields of the texts of moments, each with its greatest value where the fields in front of it are given, and
 -- reading them.
-use Rattle.std.specs.Prelude.{codes, ◌≡◌, ℕ, ◌*◌, ◌≤◌, Bool, ◌&&◌, List, [], ◌++◌, pos, ◌==◌, if◌then◌else◌, Result}
+use Rattle.std.specs.Prelude.{codes, ◌≡◌, ℕ, ◌*◌, ◌≤◌, Bool, ◌&&◌, List, [], pos, ◌==◌, if◌then◌else◌, Result}
 use Rattle.std.specs.Prelude.{Ok, Err}
 use Rattle.jiff.specs.Types.{DateTime}
 use Rattle.jiff.specs.Words.{days_in_month}
 use Rattle.sx_text.specs.Texts.{Reader, IsNoText}
-use Rattle.sx_text.specs.Readers.{pair_at, closed_at}
+use Rattle.sx_text.specs.Readers.{pair_at, closed_at, made_at}
 use Rattle.sx_text.specs.Numbers.{IsFrom}
 use Rattle.sx_text.specs.Digits.{digits_after}
-use Rattle.sx_base.specs.Moment.{Day, TimeOfDay, Fields, greatest_written, moment_text, IsMoment, IsMomentText}
+use Rattle.sx_base.specs.Moment.{Day, TimeOfDay, Fields, IsWritten, moment_of, moment_text}
 use Rattle.sx_base.specs.declared.moment_reader.BadMoment.{BadMoment}
 
 -- the day of the greatest moment
@@ -58,9 +58,9 @@ day_at bytes = pair_at (digits_after [] 3 1970 9892)
     (λ year. pair_at (digits_after (codes "-") 1 1 (month_most year))
     (λ month. digits_after (codes "-") 1 1 (day_most year month))) bytes
 
--- the time of the day at the front
-unfoldable pub time_at : Day → Reader ℕ TimeOfDay
-time_at d bytes = pair_at (digits_after (codes "T") 1 0 (hour_most d))
+-- a literal, and the time of the day behind it
+unfoldable pub time_at : List ℕ → Day → Reader ℕ TimeOfDay
+time_at literal d bytes = pair_at (digits_after literal 1 0 (hour_most d))
     (λ hour. pair_at (digits_after (codes ":") 1 0 (minute_most d hour))
     (λ minute. digits_after (codes ":") 1 0 (second_most d hour minute))) bytes
 
@@ -70,7 +70,11 @@ ticks_at d t bytes = closed_at (digits_after (codes ".") 6 0 (ticks_most d t)) (
 
 -- all fields at the front
 unfoldable pub fields_at : Reader ℕ Fields
-fields_at bytes = pair_at day_at (λ d. pair_at (time_at d) (λ t. ticks_at d t)) bytes
+fields_at bytes = pair_at day_at (λ d. pair_at (time_at (codes "T") d) (λ t. ticks_at d t)) bytes
+
+-- the moment whose text stands at the front
+unfoldable pub moment_at : Reader ℕ ℕ
+moment_at bytes = made_at moment_of fields_at bytes
 
 -- the fields of some civil time, from 1970 to 9892
 pub record IsCivil (y mo d h mi s f : ℕ) : Type 0 where
@@ -90,10 +94,5 @@ Shows dt year month day hour minute second ticks =
 
 -- the moment whose text it is, or the length of the longest prefix that begins the text of a moment, where it is none
 abbrev pub ReadsMoment : List ℕ → Result ℕ BadMoment → Type 0
-ReadsMoment text (Ok at) = (at ≤ greatest_written) × IsMomentText text at
-ReadsMoment text (Err bad) = IsNoText moment_text IsMoment text bad.at
-
--- the text of the moment stands at the front, and the rest behind it
-abbrev pub BeginsWithMoment : List ℕ → ℕ → List ℕ → Type 0
-BeginsWithMoment bytes at rest =
-    (at ≤ greatest_written) × (text : List ℕ) × IsMomentText text at × (bytes ≡ text ++ rest)
+ReadsMoment text (Ok at) = IsWritten at × (text ≡ moment_text at)
+ReadsMoment text (Err bad) = IsNoText moment_text IsWritten text bad.at

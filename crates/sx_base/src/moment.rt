@@ -1,6 +1,7 @@
 //! The text of a moment.
-ghost use Rattle.std.specs.Prelude.{◌≡◌, ◌≤◌, ◌+◌, ◌%◌, pos};
-ghost use Rattle.sx_base.specs.Moment.{greatest_written, fields_text, IsCivilTime, IsMomentText};
+ghost use Rattle.std.specs.Prelude.{◌≡◌, ◌≤◌, ◌+◌, ◌%◌, ℕ, List, pos};
+ghost use Rattle.sx_base.specs.Moment.{greatest_written, fields_text, IsCivilTime, IsWritten, moment_text};
+ghost use Rattle.sx_base.specs.Moment.{IsMomentText};
 
 use jiff::Timestamp;
 use jiff::civil::DateTime;
@@ -96,3 +97,10 @@ pub fn print_moment(at: u64) -> [u8; 28]
         plain.time.subsec_nanosecond / 100,
     )
 }
+
+/// The law of the texts of moments: `moment_text` is the one text that a moment has in the calendar of jiff. It does
+/// nothing.
+pub fn moments_have_one_text()
+    ensures only { (text : List ℕ) (at : ℕ) → IsMomentText text at → text ≡ moment_text at }
+    ensures some { (at : ℕ) → IsWritten at → IsMomentText (moment_text at) at }
+{}

@@ -1,14 +1,12 @@
 //! Reading the text of a moment, with the place of its fault.
-ghost use Rattle.std.specs.Prelude.{◌≡◌, ◌<◌, ◌≤◌, ◌*◌, ◌-◌, ℕ, List, Result, Ok, IfOk, IfErr, length, pos};
-ghost use Rattle.sx_text.specs.Texts.{IsLongest};
-ghost use Rattle.jiff.specs.Types.{DateTime as PlainTime};
+ghost use Rattle.std.specs.Prelude.{◌≡◌, ◌<◌, ◌≤◌, ◌*◌, ◌++◌, ℕ, List, Result, Ok, IfOk, pos};
+ghost use Rattle.sx_text.specs.Texts.{IsReading};
 ghost use Rattle.sx_text.specs.Given.{Reads};
-ghost use Rattle.sx_base.specs.Moment.{Day, TimeOfDay, Fields, greatest_written, fields_of, IsCivilTime, IsMoment};
-ghost use Rattle.sx_base.specs.Moment.{IsMomentText, moment_text};
+ghost use Rattle.sx_base.specs.Moment.{Day, TimeOfDay, Fields, greatest_written, IsCivilTime, IsMoment, IsWritten};
+ghost use Rattle.sx_base.specs.Moment.{moment_of, moment_text, IsMomentText};
 ghost use Rattle.sx_base.specs.MomentReader.{is_last_day, month_most, day_most, hour_most, minute_most, second_most};
 ghost use Rattle.sx_base.specs.MomentReader.{ticks_most, IsFields, IsCivil, Shows, day_at, time_at, ticks_at};
-ghost use Rattle.sx_base.specs.MomentReader.{fields_at, BeginsWithMoment};
-ghost use Rattle.sx_base.specs.MomentReader.{ReadsMoment};
+ghost use Rattle.sx_base.specs.MomentReader.{fields_at, moment_at, ReadsMoment};
 
 use jiff::civil::DateTime;
 use jiff::tz::Offset;
@@ -106,10 +104,10 @@ fn read_day(bytes: &[u8]) -> Result<(Day, &[u8]), Unread>
 }
 
 #[tactic(auto, unfolding(crate::specs::MomentReader::time_at), using(crate::proofs::MomentReading::hour_most_is, crate::proofs::MomentReading::minute_most_is, crate::proofs::MomentReading::second_most_is))]
-fn read_time(bytes: &[u8], day: Day) -> Result<(TimeOfDay, &[u8]), Unread>
-    ensures { Reads (λ x. (x.0, x.1.now)) result (time_at day bytes.now) }
+fn read_time<'a>(bytes: &'a [u8], text: &[u8], day: Day) -> Result<(TimeOfDay, &'a [u8]), Unread>
+    ensures { Reads (λ x. (x.0, x.1.now)) result (time_at text.now day bytes.now) }
 {
-    let (hour, rest) = digits_behind(bytes, b"T", 1, 0, greatest_hour(day))?;
+    let (hour, rest) = digits_behind(bytes, text, 1, 0, greatest_hour(day))?;
     let (minute, rest) = digits_behind(rest, b":", 1, 0, greatest_minute(day, hour))?;
     let (second, rest) = digits_behind(rest, b":", 1, 0, greatest_second(day, hour, minute))?;
     Ok(((hour, (minute, second)), rest))
@@ -129,7 +127,7 @@ fn read_fields(bytes: &[u8]) -> Result<(Fields, &[u8]), Unread>
     ensures { Reads (λ x. (x.0, x.1.now)) result (fields_at bytes.now) }
 {
     let (day, rest) = read_day(bytes)?;
-    let (clock, rest) = read_time(rest, day)?;
+    let (clock, rest) = read_time(rest, b"T", day)?;
     let (ticks, rest) = read_ticks(rest, day, clock)?;
     Ok(((day, (clock, ticks)), rest))
 }
@@ -197,8 +195,8 @@ fn moment_of(time: DateTime) -> u64
 /// The moment of which these are the fields.
 fn moment_with(fields: Fields) -> u64
     requires { IsFields fields }
-    ensures bound { result ≤ greatest_written }
-    ensures moment { (dt : PlainTime) × IsCivilTime dt result × (fields_of dt ≡ fields) }
+    ensures moment { result ≡ moment_of fields }
+    ensures bound { IsWritten result }
 {
     let (day, (clock, ticks)) = fields;
     moment_of(civil_time_of(
@@ -206,13 +204,25 @@ fn moment_with(fields: Fields) -> u64
     ))
 }
 
-/// The moment of which this is the text: `YYYY-MM-DDThh:mm:ss.fffffffZ`, 28 bytes, in UTC, from
-/// 1970-01-01T00:00:00.0000000Z to 9892-03-08T12:33:49.4967295Z. Any other bytes are `BadMoment`.
+/// Takes the text of a moment, `YYYY-MM-DDThh:mm:ss.fffffffZ`, 28 bytes, in UTC, from 1970-01-01T00:00:00.0000000Z to
+/// 9892-03-08T12:33:49.4967295Z, from the front of the bytes, and gives the moment and the bytes behind the text.
+/// `Unread` tells how many bytes are left behind the longest prefix that begins the text of a moment.
+#[tactic(auto, unfolding(crate::specs::MomentReader::moment_at))]
+pub fn take_moment(bytes: &[u8]) -> Result<(u64, &[u8]), Unread>
+    ensures reading { Reads (λ x. (x.0, x.1.now)) result (moment_at bytes.now) }
+    ensures bound { IfOk result (λ x. IsWritten x.0) }
+{
+    let (fields, rest) = read_fields(bytes)?;
+    Ok((moment_with(fields), rest))
+}
+
+/// The moment of which this is the text, as `take_moment` takes it, with nothing behind it. Any other bytes are
+/// `BadMoment`.
 pub fn read_moment(text: &[u8]) -> Result<u64, BadMoment>
     ensures { ReadsMoment text.now result }
 {
-    match read_fields(text) {
-        Ok((fields, [])) => Ok(moment_with(fields)),
+    match take_moment(text) {
+        Ok((at, [])) => Ok(at),
         Ok((_, rest)) => Err(BadMoment {
             at: (text.len() - rest.len()) as u64,
         }),
@@ -222,23 +232,9 @@ pub fn read_moment(text: &[u8]) -> Result<u64, BadMoment>
     }
 }
 
-/// Takes the text of a moment, as `read_moment` reads it, from the front of the bytes, and gives the moment and the
-/// bytes
-/// behind the text. `Unread` tells how many bytes are left behind the longest prefix that begins the text of a moment.
-pub fn take_moment(bytes: &[u8]) -> Result<(u64, &[u8]), Unread>
-    ensures moment { IfOk result (λ x. BeginsWithMoment bytes.now x.0 x.1.now) }
-    ensures within { IfErr result (λ unread. unread.left ≤ length bytes.now) }
-    ensures longest { IfErr result
-        (λ unread. IsLongest moment_text IsMoment bytes.now (length bytes.now - unread.left)) }
-{
-    match read_fields(bytes) {
-        Ok((fields, rest)) => Ok((moment_with(fields), rest)),
-        Err(unread) => Err(unread),
-    }
-}
-
-/// The law of moments: the text of a moment is read as that moment. It does nothing.
-pub fn printed_moments_are_read_back()
-    ensures { (text : List ℕ) (at : ℕ) (read : Result ℕ BadMoment) → at ≤ greatest_written → IsMomentText text at
+/// The law of moments: their texts are read exactly, and the text of a moment is read as that moment. It does nothing.
+pub fn moments_are_read()
+    ensures reading { IsReading moment_text IsWritten moment_at }
+    ensures back { (text : List ℕ) (at : ℕ) (read : Result ℕ BadMoment) → IsWritten at → IsMomentText text at
         → ReadsMoment text read → read ≡ Ok at }
 {}

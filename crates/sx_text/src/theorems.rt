@@ -120,8 +120,8 @@ pub fn hex_digits_are_read()
 /// The law of names: the names of the numbers that are allowed are read exactly, where no name stands at the place of
 /// another one and some number is allowed. It does nothing.
 pub fn names_are_read()
-    ensures { (name : ℕ → List ℕ) (is_allowed : ℕ → Bool) (count first : ℕ) → AreApart name first (first + count) → (n : ℕ)
-        → IsNamed is_allowed count first n
+    ensures { (name : ℕ → List ℕ) (is_allowed : ℕ → Bool) (count first : ℕ) → AreApart name first (first + count)
+        → (n : ℕ) → IsNamed is_allowed count first n
         → IsReading name (IsNamed is_allowed count first) (named_at name is_allowed count first) }
 {}
 
