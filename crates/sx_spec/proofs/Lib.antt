@@ -27,3 +27,9 @@ pub mod WholeSteps
 pub mod RestRows
 pub mod SessionRows
 pub mod WholeRows
+pub mod SnapshotKept
+pub mod SnapshotSteps
+pub mod SnapshotMade
+pub mod SnapshotPlain
+pub mod SnapshotReads
+pub mod Snapshots

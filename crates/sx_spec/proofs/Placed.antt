@@ -137,7 +137,7 @@ no_free : {A : Type 0} (parent : ℕ) (o : Option (List ℕ)) (n : Node) → opt
 no_free parent None n e = absurd (none_some (Taken n) e)
 no_free parent (Some name) n e = cc
 
-taken_in : (t : Nodes) (path : List (List ℕ)) (f : Found) (n : Node) → spot_of t path f ≡ Ok (Taken n)
+pub taken_in : (t : Nodes) (path : List (List ℕ)) (f : Found) (n : Node) → spot_of t path f ≡ Ok (Taken n)
     → (id : ℕ) × (f ≡ found.Node id) × (node_at t id ≡ Some n)
 taken_in t path (found.Node id) n e =
     (id, refl, taken_by (node_at t id) n (ok_there (option_map Taken (node_at t id)) refusal.NameAbsent (Taken n) e))

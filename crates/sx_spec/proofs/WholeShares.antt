@@ -190,7 +190,7 @@ rested_slot None x e = absurd (none_some x e)
 rested_slot (Some y) x e =
     let is : slot_with (with_facts at_rest) y ≡ x = same_Some _ _ e in (ap (λ (s : Slot). s.node.facts.lease) (sym is), ap (λ (s : Slot). s.node.facts.pending) (sym is))
 
-is_rested : (t : Nodes) → IsAtRest (tree_at_rest t)
+pub is_rested : (t : Nodes) → IsAtRest (tree_at_rest t)
 is_rested t q x e = rested_slot (slot_at t q) x (sym (rest_at t q) ∙ e)
 
 some_before : (o : Option Slot) (x : Slot) → option_map (slot_with (with_facts at_rest)) o ≡ Some x
@@ -231,7 +231,7 @@ old_snapshots next_id at x (s ∷ ss) some w =
     not_empty : (s : Snapshot) (ss : List Snapshot) → s ∷ ss ≢ []
     not_empty s ss e = cc
 
-rising_new : (next_id at : ℕ) (x : Share) (xs : List Snapshot) → (xs ≢ [] → x.given ≢ None)
+pub rising_new : (next_id at : ℕ) (x : Share) (xs : List Snapshot) → (xs ≢ [] → x.given ≢ None)
     → All (IsSnapshot next_id x.given) xs → All (λ s. s.moment < next_moment at x.given) xs
 rising_new next_id at x [] some w = All-nil (λ s. s.moment < next_moment at x.given)
 rising_new next_id at x (s ∷ ss) some w =

@@ -4,6 +4,7 @@ use Rattle.std.specs.Prelude.{None, All, Result, Ok, Err}
 use Rattle.sx_base.specs.Entries.{change}
 use Rattle.sx_lease.specs.declared.lease.LeaseState.TheVariants.{Available}
 use Rattle.sx_names.specs.declared.meta_pair.MetaPair.{MetaPair}
+use Rattle.sx_call.specs.CallLimits.{IsWithinLimits}
 use Rattle.sx_call.specs.Leases.{ReadScope}
 use Rattle.sx_call.specs.declared.calls.Call.{Call}
 use Rattle.sx_call.specs.declared.calls.Call.TheVariants.{GetShareProperties, GetShareMetadata, GetDirectoryProperties}
@@ -82,8 +83,7 @@ only_range (Err r) = Err r
 only_range (Ok act) = Ok (record act { checks = record unchecked { range = act.checks.range } })
 
 -- PLAIN READING: the reply to the same call of the share as it stands in the account at rest, where only share, parent,
--- node, kind
--- and range are checked
+-- node, kind and range are checked
 abbrev pub plain_reply : Account → Entry → Reply
 plain_reply a e =
     let rest = account_at_rest a in
@@ -105,13 +105,13 @@ deletes_snapshot name moment (DeleteShare c) = bytes_eq c.share name
 deletes_snapshot name moment (DeleteSnapshot c) = bytes_eq c.share name && c.moment == moment
 deletes_snapshot name moment call = false
 
--- A legal history in which `made` is an unrefused Snapshot Share that gave a moment, which nothing deleted since, and
--- an entry that
--- may come behind it and reads that snapshot.
+-- A legal history, its calls within their limits, in which `made` is an unrefused Snapshot Share that gave a moment,
+-- which nothing deleted since, and an entry that may come behind it and reads that snapshot.
 pub record ReadsMadeSnapshot
     (limit : ℕ) (before : List Noted) (made : Noted) (since : List Noted) (e : Entry)
     (name : List ℕ) (meta : List MetaPair) (moment : ℕ) (stamp : Stamp) : Type 0 where
   pub legal : IsHistory limit (before ++ made ∷ since)
+  pub limits : All (λ n. IsWithinLimits n.entry.call) (before ++ made ∷ since)
   pub call : made.entry.call ≡ SnapshotShare (record { share = name; meta = meta })
   pub gave : (step (replay before) made.entry).1 ≡ Snapped moment stamp
   pub kept : All (λ n. n.refused ≡ false → deletes_snapshot name moment n.entry.call ≡ false) since

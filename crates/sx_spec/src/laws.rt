@@ -16,6 +16,7 @@ ghost use Rattle.sx_spec.specs.Conflicts.{ConflictLaw};
 ghost use Rattle.sx_spec.specs.History.{IsHistory, MayCome, last_moment, noted_at, wants};
 ghost use Rattle.sx_call.specs.CallLimits.{IsWithinLimits};
 ghost use Rattle.sx_spec.specs.Step.{first_refusal, handle_in, replay, reply_at, step};
+ghost use Rattle.sx_spec.specs.SnapshotLaw.{SnapshotLaw};
 ghost use Rattle.sx_spec.specs.Whole.{IsWhole};
 
 /// Refused exactly where a check applies: a reply is a refusal exactly where it is the first that applies, a refused
@@ -67,6 +68,13 @@ pub fn closing_cannot_fail()
         → open_of a.store (handle_in e index) ≡ Some o → (step a e).1 ≡ Smb (Closed (close_fate o a.store)) }
     ensures absent { (a : Account) (e : Entry) (index : ℕ) → e.call ≡ SmbClose (record { index = index })
         → open_of a.store (handle_in e index) ≡ None → (step a e).1 ≡ Refused (NoHandle (handle_in e index)) }
+{}
+
+/// Snapshots read as the share stood: in a legal history a call that reads a snapshot is answered as a plain reading of
+/// the share, at rest and with the metadata given with the snapshot, as the share stood when the snapshot was made, as
+/// long as neither the snapshot nor the share was deleted.
+pub fn snapshots_read_as_the_share_stood()
+    ensures { SnapshotLaw }
 {}
 
 /// Steps keep an account whole: the empty account is whole, and so is what an entry leaves that may come and keeps
