@@ -1,7 +1,7 @@
 -- A snapshot of a share stands where neither it nor its share is deleted: what each change of a store leaves of it.
-use Rattle.std.proofs.Common.{◌≡◌, ◌≢◌, ℕ, ◌+◌, ◌≤◌, true, false, Bool, cond, not, List, [], ◌∷◌, ◌++◌, Some, refl}
-use Rattle.std.proofs.Common.{rules, tests, sym, ap, ◌∙◌, subst, arith, ◌⊎◌, ⊎_elim}
-use Rattle.std.specs.Prelude.{bytes_eq, filter, find, ◌==◌, ◌&&◌, Ok}
+use Rattle.std.proofs.Common.{◌≡◌, ◌≢◌, ℕ, ◌+◌, true, false, Bool, cond, not, List, [], ◌∷◌, ◌++◌, Some, refl}
+use Rattle.std.proofs.Common.{rules, tests, sym, ap, ◌∙◌, subst, arith, ⊎_elim}
+use Rattle.std.specs.Prelude.{bytes_eq, find, ◌==◌, ◌&&◌}
 use Rattle.std.specs.BTreeMap.{is_at, insert_entry}
 use Rattle.std.specs.List.Sorted.{IsStrictlySortedBy}
 use Rattle.std.specs.Map.{keys_of, remove_entry}
@@ -20,13 +20,13 @@ use Rattle.sx_tree.specs.declared.share.Share.{Share}
 use Rattle.sx_tree.specs.declared.share.Snapshot.{Snapshot}
 use Rattle.sx_tree.specs.Tree.{Nodes}
 use Rattle.sx_spec.specs.Account.{Store}
-use Rattle.sx_spec.specs.Changes.{add_share, drop_share, make_node, put_facts, put_file, delete_at, put_open, take_open}
+use Rattle.sx_spec.specs.Changes.{make_node, put_facts, put_file, delete_at, put_open, take_open}
 use Rattle.sx_spec.specs.Changes.{put_lock, take_lock, change_open, close, close_all, put_session, take_session}
 use Rattle.sx_spec.specs.Shares.{is_of_moment, with_snapshot, without_snapshot}
 use Rattle.sx_spec.specs.Whole.{AreShares}
 use Rattle.sx_spec.proofs.Inserts.{numbers, inserted_other}
 use Rattle.sx_spec.proofs.Lists.{true_false, none_some, find_filter}
-use Rattle.sx_spec.proofs.Lookups.{Became, change_there, removed_other}
+use Rattle.sx_spec.proofs.Lookups.{change_there, removed_other}
 
 -- a share of a name that keeps a snapshot of a moment
 pub record Keeps (name : List ℕ) (moment : ℕ) (kept : Snapshot) (x : Share) : Type 0 where

@@ -1,35 +1,31 @@
 -- What an unrefused Snapshot Share leaves: the share's snapshot of the moment that was answered.
-use Rattle.std.proofs.Common.{◌≡◌, ◌≢◌, ℕ, ◌<◌, true, false, Bool, cond, List, [], ◌∷◌, ◌++◌, Option, Some, None, refl}
-use Rattle.std.proofs.Common.{rules, tests, sym, ap, ◌∙◌, subst, arith, ⊎_elim, option_map}
-use Rattle.std.specs.Prelude.{All, ◌==◌, find, Result, Ok, Err, bytes_eq, nat_le, length}
-use Rattle.std.specs.Map.{keys_of}
-use Rattle.std.specs.Ordering.{nat_cmp}
+use Rattle.std.proofs.Common.{◌≡◌, ◌≢◌, ℕ, ◌<◌, true, false, cond, List, [], ◌∷◌, ◌++◌, Option, Some, None, refl}
+use Rattle.std.proofs.Common.{rules, tests, sym, ap, ◌∙◌, subst, ⊎_elim}
+use Rattle.std.specs.Prelude.{All, ◌==◌, find, Result, Ok, Err, bytes_eq}
 use Rattle.std.proofs.lemmas.List.Elements.{All-head, All-tail}
-use Rattle.std.proofs.lemmas.Option.{same_Some}
-use Rattle.sx_base.specs.Entries.{value_at, change_at}
+use Rattle.sx_base.specs.Entries.{value_at}
 use Rattle.sx_names.specs.declared.meta_pair.MetaPair.{MetaPair}
 use Rattle.sx_call.specs.declared.calls.Call.{Call}
 use Rattle.sx_call.specs.declared.calls.Call.TheVariants.{SnapshotShare}
 use Rattle.sx_call.specs.declared.entries.Entry.{Entry}
 use Rattle.sx_call.specs.declared.refusals.Refusal.{Refusal}
 use Rattle.sx_call.specs.declared.refusals.Refusal.TheVariants as refusal
-use Rattle.sx_call.specs.declared.replies.Reply.{Reply}
 use Rattle.sx_call.specs.declared.replies.Reply.TheVariants.{Snapped, Refused}
 use Rattle.sx_call.specs.declared.shown.Stamp.{Stamp}
 use Rattle.sx_tree.specs.declared.share.Share.{Share}
 use Rattle.sx_tree.specs.declared.share.Snapshot.{Snapshot}
 use Rattle.sx_spec.specs.Account.{Store, Account, has_name, share_named}
-use Rattle.sx_spec.specs.Changes.{Act, change_share}
+use Rattle.sx_spec.specs.Changes.{change_share}
 use Rattle.sx_spec.specs.Checks.{first_check}
 use Rattle.sx_spec.specs.Places.{share_at}
 use Rattle.sx_spec.specs.ShareCalls.{snapshot_share}
 use Rattle.sx_spec.specs.Shares.{is_of_moment, next_moment, share_stamp, snapshot_of, with_snapshot}
 use Rattle.sx_spec.specs.Step.{at_place, act_of, stamp_in, outcome, unless_refused, step}
 use Rattle.sx_spec.specs.Whole.{IsShare, IsWhole}
-use Rattle.sx_spec.proofs.Lists.{found_passes, nat_same, none_some}
+use Rattle.sx_spec.proofs.Lists.{found_passes, nat_same}
 use Rattle.sx_spec.proofs.Lookups.{change_there}
 use Rattle.sx_spec.proofs.Placed.{ok_there, share_live}
-use Rattle.sx_spec.proofs.SnapshotKept.{Keeps, IsKept}
+use Rattle.sx_spec.proofs.SnapshotKept.{IsKept}
 use Rattle.sx_spec.proofs.WholeShares.{rising_new}
 
 -- the share of a name was given a snapshot of a moment, and nothing else was changed

@@ -1,5 +1,5 @@
 -- Where a name and a moment lead: the volume that a snapshot keeps, and the same one of a share at rest.
-use Rattle.std.proofs.Common.{◌≡◌, ◌≢◌, ℕ, true, false, Bool, cond, List, [], ◌∷◌, Option, Some, None, refl, sym, ap}
+use Rattle.std.proofs.Common.{◌≡◌, ℕ, true, false, Bool, cond, List, [], ◌∷◌, Some, None, refl, sym, ap}
 use Rattle.std.proofs.Common.{◌∙◌, subst, option_map}
 use Rattle.std.specs.Prelude.{bytes_eq, find, map, Ok}
 use Rattle.std.specs.BTreeMap.{is_at}
@@ -12,7 +12,7 @@ use Rattle.sx_tree.specs.declared.share.Share.{Share}
 use Rattle.sx_tree.specs.declared.share.Snapshot.{Snapshot}
 use Rattle.sx_spec.specs.Account.{Account, has_name}
 use Rattle.sx_spec.specs.Places.{Volume, volume_at, kept_volume}
-use Rattle.sx_spec.specs.Shares.{meta_or, is_of_moment, snapshot_of, with_snapshot}
+use Rattle.sx_spec.specs.Shares.{meta_or, snapshot_of, with_snapshot}
 use Rattle.sx_spec.specs.SnapshotLaw.{share_at_rest, account_at_rest, with_given_meta}
 use Rattle.sx_spec.specs.Whole.{AreShares, IsWhole}
 use Rattle.sx_spec.proofs.Lists.{none_some, true_false, find_change, found_passes}

@@ -1,7 +1,7 @@
 -- A call that reads a snapshot is answered as the same call of the share at rest: one row a call.
 use Rattle.std.proofs.Common.{◌≡◌, ℕ, true, false, Bool, cond, List, [], ◌∷◌, Option, Some, None, refl, sym, ap, ◌∙◌}
 use Rattle.std.proofs.Common.{subst, option_map, rules, tests}
-use Rattle.std.specs.Prelude.{◌&&◌, ◌==◌, bytes_eq, Result, Ok, Err, ok_or}
+use Rattle.std.specs.Prelude.{◌==◌, bytes_eq, Result, Ok, Err}
 use Rattle.std.proofs.lemmas.Option.{same_Some}
 use Rattle.std.proofs.lemmas.Slice.Eq.{bytes_eq-Decides}
 use Rattle.sx_call.specs.declared.calls.Call.{Call}
@@ -14,15 +14,13 @@ use Rattle.sx_call.specs.declared.refusals.Refusal.TheVariants as refusal
 use Rattle.sx_call.specs.declared.shown.Stamp.{Stamp}
 use Rattle.sx_call.specs.declared.targets.Target.{Target}
 use Rattle.sx_tree.specs.declared.node.FileBody.{FileBody}
-use Rattle.sx_tree.specs.declared.node.Found.{Found}
-use Rattle.sx_tree.specs.declared.node.Found.TheVariants as found
 use Rattle.sx_tree.specs.declared.node.Kind.{Kind}
 use Rattle.sx_tree.specs.declared.node.Kind.TheVariants.{Directory, File}
 use Rattle.sx_tree.specs.declared.node.Node.{Node}
 use Rattle.sx_tree.specs.declared.share.Snapshot.{Snapshot}
 use Rattle.sx_tree.specs.Find.{found_in}
 use Rattle.sx_tree.specs.Tree.{Nodes, Slot, slot_at}
-use Rattle.sx_spec.specs.Account.{Store, Account}
+use Rattle.sx_spec.specs.Account.{Store}
 use Rattle.sx_spec.specs.Changes.{Act}
 use Rattle.sx_spec.specs.Checks.{first_of, first_check, unchecked, file_checks, range_check}
 use Rattle.sx_spec.specs.FileCalls.{get_directory_properties, get_directory_metadata, list_directory, get_file}
@@ -34,7 +32,6 @@ use Rattle.sx_spec.specs.ShareCalls.{get_share_properties, get_share_metadata}
 use Rattle.sx_spec.specs.SnapshotLaw.{is_moment, is_snapshot_of, reads_snapshot, without_snapshot, only_range}
 use Rattle.sx_spec.specs.Step.{at_place, act_of, outcome, unless_refused}
 use Rattle.sx_spec.specs.Whole.{IsAtRest}
-use Rattle.sx_spec.proofs.Live.{unchecked_passes}
 use Rattle.sx_spec.proofs.Lists.{none_some, true_false, both_left, both_right}
 use Rattle.sx_spec.proofs.Placed.{taken_in}
 use Rattle.sx_spec.proofs.SnapshotPlain.{unmarked}

@@ -1,5 +1,5 @@
 -- A snapshot of a share stands after each step that deletes neither it nor its share: one row a call.
-use Rattle.std.proofs.Common.{◌≡◌, ◌≢◌, ℕ, true, false, Bool, List, Option, Some, None, refl, sym, ap, ◌∙◌, subst}
+use Rattle.std.proofs.Common.{◌≡◌, ℕ, true, false, Bool, List, Option, Some, None, refl, sym, ap, ◌∙◌, subst}
 use Rattle.std.specs.Prelude.{◌==◌, ◌&&◌, Result, Ok, Err, bytes_eq, find, ok_or, option_map}
 use Rattle.sx_guard.specs.declared.access.Access.{Access}
 use Rattle.sx_guard.specs.declared.access.Mode.{Mode}
@@ -40,7 +40,7 @@ use Rattle.sx_spec.specs.Needs.{access_needed}
 use Rattle.sx_spec.specs.Places.{◌>>=◌, Volume, Spot, Taken, Free, share_at, vacancy, volume_in, volume_at, node_place}
 use Rattle.sx_spec.specs.Places.{directory_place, file_place, handle_place, held_file, held_directory, making_place}
 use Rattle.sx_spec.specs.Places.{free_in, file_at, of_kind, not_pending, spot_at, kept_volume}
-use Rattle.sx_spec.specs.SessionCalls.{start, end_session, smb_open, open_spot, spot_for, smb_close, smb_read}
+use Rattle.sx_spec.specs.SessionCalls.{smb_open, open_spot, spot_for, smb_close, smb_read}
 use Rattle.sx_spec.specs.SessionCalls.{smb_write, smb_resize, smb_lock, smb_unlock, smb_stat, smb_list, smb_dispose}
 use Rattle.sx_spec.specs.ShareCalls.{create_share, get_share_properties, get_share_metadata, set_share_properties}
 use Rattle.sx_spec.specs.ShareCalls.{set_share_metadata, delete_share, delete_snapshot, snapshot_share, lease_share}
@@ -51,7 +51,7 @@ use Rattle.sx_spec.specs.Whole.{IsWhole}
 use Rattle.sx_spec.proofs.Lists.{found_passes}
 use Rattle.sx_spec.proofs.Placed.{bind_ok, ok_there, ok_of, share_live}
 use Rattle.sx_spec.proofs.Refusals.{Fair, fair}
-use Rattle.sx_spec.proofs.SnapshotKept.{Keeps, IsKept, Stands, kept_changed, kept_more, kept_added, kept_dropped}
+use Rattle.sx_spec.proofs.SnapshotKept.{Stands, kept_changed, kept_more, kept_added, kept_dropped}
 use Rattle.sx_spec.proofs.SnapshotKept.{other_number, kept_without, node_made, facts_put, file_put, node_deleted}
 use Rattle.sx_spec.proofs.SnapshotKept.{open_put, open_changed, lock_put, lock_taken, session_put, session_taken}
 use Rattle.sx_spec.proofs.SnapshotKept.{one_closed, all_closed}

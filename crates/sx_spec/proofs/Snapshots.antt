@@ -1,7 +1,7 @@
 -- The law of snapshots: a call that reads a snapshot is answered as the share stood when the snapshot was made.
-use Rattle.std.proofs.Common.{◌≡◌, ℕ, true, false, List, [], ◌∷◌, ◌++◌, Some, None, refl, sym, ap, ◌∙◌}
-use Rattle.std.specs.Prelude.{All, Ok}
-use Rattle.std.proofs.lemmas.List.Elements.{All-nil, All-cons, All-head, All-tail}
+use Rattle.std.proofs.Common.{◌≡◌, ℕ, false, List, [], ◌∷◌, ◌++◌, refl, ◌∙◌}
+use Rattle.std.specs.Prelude.{All}
+use Rattle.std.proofs.lemmas.List.Elements.{All-head, All-tail}
 use Rattle.sx_names.specs.declared.meta_pair.MetaPair.{MetaPair}
 use Rattle.sx_call.specs.CallLimits.{IsWithinLimits}
 use Rattle.sx_call.specs.declared.entries.Entry.{Entry}
