@@ -4,6 +4,14 @@
 #[cfg(test)]
 mod copies;
 #[cfg(test)]
+mod directories;
+#[cfg(test)]
+mod files;
+#[cfg(test)]
 mod limits;
 #[cfg(test)]
 mod made;
+#[cfg(test)]
+mod sessions;
+#[cfg(test)]
+mod shares;
