@@ -18,7 +18,7 @@ under : (b : Bool) (x y n : ℕ) → n ≤ cond b x y → b ≡ true → n ≤ x
 under true x y n h e = h
 under false x y n h e = absurd (false≢true e)
 
-under_both : (b : Bool) (x y n : ℕ) → x ≤ y → n ≤ cond b x y → n ≤ y
+pub under_both : (b : Bool) (x y n : ℕ) → x ≤ y → n ≤ cond b x y → n ≤ y
 under_both true x y n le h = omega (arith, le, h)
 under_both false x y n le h = h
 

@@ -2,6 +2,9 @@ pub mod Buffers
 pub mod Calendars
 pub mod Calling
 pub mod CivilFields
+pub mod DateNames
+pub mod DateReading
+pub mod Dates
 pub mod Firsts
 pub mod MomentFields
 pub mod MomentReading

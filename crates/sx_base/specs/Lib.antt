@@ -3,6 +3,7 @@ pub mod Calls
 pub mod Causes
 pub mod Clock
 pub mod Date
+pub mod DateReader
 pub mod Entries
 pub mod Link
 pub mod LinkLists

@@ -1,8 +1,8 @@
 //! Header dates: the text of a moment, and the moment of a text.
 ghost use Rattle.std.specs.Prelude.{◌≡◌, ◌≤◌, ◌*◌, ◌/◌, ℕ, List, Some, None, option_map};
 ghost use Rattle.httpdate.specs.Date.{parse_secs};
-ghost use Rattle.sx_base.specs.Moment.{greatest_written};
-ghost use Rattle.sx_base.specs.Date.{IsDateOf, ReadsDate};
+ghost use Rattle.sx_base.specs.Moment.{greatest_written, IsWritten};
+ghost use Rattle.sx_base.specs.Date.{date_text, IsDateOf, ReadsDate};
 
 use httpdate::HttpDate;
 
@@ -35,4 +35,10 @@ pub fn printed_dates_are_read_back()
     ensures some { (text : List ℕ) (at : ℕ) → IsDateOf text at → ReadsDate text None → ⊥ }
     ensures same { (text : List ℕ) (at read : ℕ) → IsDateOf text at → ReadsDate text (Some read)
         → read ≡ at / 10_000_000 * 10_000_000 }
+{}
+
+/// The law of the texts of dates: `date_text` is the one header date that a moment has by `httpdate`. It does nothing.
+pub fn moments_have_one_date()
+    ensures only { (text : List ℕ) (at : ℕ) → IsDateOf text at → text ≡ date_text at }
+    ensures some { (at : ℕ) → IsWritten at → IsDateOf (date_text at) at }
 {}

@@ -6,6 +6,7 @@ mod buffer;
 mod calls;
 mod clock;
 mod date;
+mod date_reader;
 mod dialer;
 mod fault;
 mod input;
@@ -26,7 +27,8 @@ mod system;
 
 pub use buffer::{Buffer, Refill};
 pub use clock::{Clock, GREATEST_MOMENT, StepClock};
-pub use date::{print_date, printed_dates_are_read_back, read_date};
+pub use date::{moments_have_one_date, print_date, printed_dates_are_read_back, read_date};
+pub use date_reader::{dates_are_read, take_date};
 pub use dialer::Dialer;
 pub use fault::Failed;
 pub use input::Input;

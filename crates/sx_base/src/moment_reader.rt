@@ -24,7 +24,7 @@ pub struct BadMoment {
 type Day = (u64, (u64, u64));
 
 /// Hour, minute and second.
-type TimeOfDay = (u64, (u64, u64));
+pub(crate) type TimeOfDay = (u64, (u64, u64));
 
 /// A day, a time of the day, and the ticks of its second.
 type Fields = (Day, (TimeOfDay, u64));
@@ -38,14 +38,14 @@ fn is_last(day: Day) -> bool
 
 /// The greatest month of a year.
 #[tactic(auto, unfolding(crate::specs::MomentReader::month_most))]
-fn greatest_month(year: u64) -> u64
+pub(crate) fn greatest_month(year: u64) -> u64
     ensures { result ≡ month_most year }
 {
     if year == 9892 { 3 } else { 12 }
 }
 
 #[tactic(auto, unfolding(crate::specs::MomentReader::day_most))]
-fn greatest_day(year: u64, month: u64) -> u64
+pub(crate) fn greatest_day(year: u64, month: u64) -> u64
     requires year { year ≤ 9892 }
     requires month { month ≤ 99 }
     ensures { result ≡ day_most year month }
@@ -104,7 +104,11 @@ fn read_day(bytes: &[u8]) -> Result<(Day, &[u8]), Unread>
 }
 
 #[tactic(auto, unfolding(crate::specs::MomentReader::time_at), using(crate::proofs::MomentReading::hour_most_is, crate::proofs::MomentReading::minute_most_is, crate::proofs::MomentReading::second_most_is))]
-fn read_time<'a>(bytes: &'a [u8], text: &[u8], day: Day) -> Result<(TimeOfDay, &'a [u8]), Unread>
+pub(crate) fn read_time<'a>(
+    bytes: &'a [u8],
+    text: &[u8],
+    day: Day,
+) -> Result<(TimeOfDay, &'a [u8]), Unread>
     ensures { Reads (λ x. (x.0, x.1.now)) result (time_at text.now day bytes.now) }
 {
     let (hour, rest) = digits_behind(bytes, text, 1, 0, greatest_hour(day))?;
@@ -132,14 +136,14 @@ fn read_fields(bytes: &[u8]) -> Result<(Fields, &[u8]), Unread>
     Ok(((day, (clock, ticks)), rest))
 }
 
-fn small(number: u64) -> i8
+pub(crate) fn small(number: u64) -> i8
     requires { number < 100 }
     ensures { result ≡ pos number }
 {
     number as i8
 }
 
-fn year_of(number: u64) -> i16
+pub(crate) fn year_of(number: u64) -> i16
     requires { number < 10_000 }
     ensures { result ≡ pos number }
 {
@@ -193,7 +197,7 @@ fn moment_of(time: DateTime) -> u64
 }
 
 /// The moment of which these are the fields.
-fn moment_with(fields: Fields) -> u64
+pub(crate) fn moment_with(fields: Fields) -> u64
     requires { IsFields fields }
     ensures moment { result ≡ moment_of fields }
     ensures bound { IsWritten result }

@@ -1,5 +1,6 @@
 //! Worked examples of the texts of moments, computed by Python's `datetime`.
-use sx_base::{BadMoment, print_moment, read_moment};
+use sx_base::{BadMoment, print_moment, read_moment, take_moment};
+use sx_text::Unread;
 
 const MOMENTS: [(u64, &[u8]); 12] = [
     (0, b"1970-01-01T00:00:00.0000000Z"),
@@ -62,4 +63,13 @@ fn tells_the_place_of_a_fault_in_a_moment(rt: HostRuntime) {
     for (text, at) in cases.iter() {
         assert_eq!(rt; read_moment(*text), Err(BadMoment { at: *at }));
     }
+}
+
+/// A moment at the front of longer bytes, and bytes that begin with none.
+#[test]
+fn takes_moments_from_the_front(rt: HostRuntime) {
+    let found = take_moment(b"2024-02-29T12:34:56.7890123Z</OpenTime>").map(|x| (x.0, x.1.len()));
+    assert_eq!(rt; found, Ok((17_092_100_967_890_123, 11)));
+    let found = take_moment(b"2023-02-29T12:34:56.7890123Z").map(|x| (x.0, x.1.len()));
+    assert_eq!(rt; found, Err(Unread { left: 19 }));
 }

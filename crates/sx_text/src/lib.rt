@@ -8,6 +8,7 @@ mod escaped_reader;
 mod fault;
 mod hex_reader;
 mod literal_reader;
+mod name_reader;
 mod number_reader;
 mod theorems;
 
@@ -16,6 +17,7 @@ pub use escaped_reader::{escaped_text, escaped_text_behind};
 pub use fault::{Fault, Unread};
 pub use hex_reader::{hex_digits, hex_digits_behind};
 pub use literal_reader::{literal, next_is};
+pub use name_reader::try_name;
 pub use number_reader::{number, number_behind};
 pub use theorems::{
     Form, FormBehind, State, TwoForms, choices_are_read, digits_are_read, escaped_texts_are_read,

@@ -10,7 +10,7 @@ ghost use Rattle.sx_text.specs.Numbers.{IsFrom, is_digit, number_text, number_at
 ghost use Rattle.sx_text.specs.Escapes.{IsWhole, escaped, escaped_text, escaped_at, escaped_after};
 ghost use Rattle.sx_text.specs.Digits.{digits_text, digits_at, digits_after};
 ghost use Rattle.sx_text.specs.Hex.{hex_text, hex_at, hex_after};
-ghost use Rattle.sx_text.specs.Named.{IsNamed, AreApart, named_at};
+ghost use Rattle.sx_text.specs.Named.{IsNamed, AreApart, named_at, named_after};
 
 /// A form of text over items of type `E`: the text of each value, and the values that have one.
 pub trait Form<E> {
@@ -120,9 +120,13 @@ pub fn hex_digits_are_read()
 /// The law of names: the names of the numbers that are allowed are read exactly, where no name stands at the place of
 /// another one and some number is allowed. It does nothing.
 pub fn names_are_read()
-    ensures { (name : ℕ → List ℕ) (is_allowed : ℕ → Bool) (count first : ℕ) → AreApart name first (first + count)
+    ensures alone { (name : ℕ → List ℕ) (is_allowed : ℕ → Bool) (count first : ℕ) → AreApart name first (first + count)
         → (n : ℕ) → IsNamed is_allowed count first n
         → IsReading name (IsNamed is_allowed count first) (named_at name is_allowed count first) }
+    ensures behind { (literal : List ℕ) (name : ℕ → List ℕ) (is_allowed : ℕ → Bool) (count first : ℕ)
+        → AreApart name first (first + count) → (n : ℕ) → IsNamed is_allowed count first n
+        → IsReading (λ n. literal ++ name n) (IsNamed is_allowed count first)
+        (named_after literal name is_allowed count first) }
 {}
 
 /// The law of escaped texts: texts of UTF-8 in which `&`, `<` and `>` are escaped are read exactly, with the `<`
