@@ -3,7 +3,8 @@
 
 Run at the top of the repository, outside the gate: `python3 tools/wrong_definitions.py [--all] [NAME..]`. It works in a
 copy of the repository. For each wrong definition it checks the one law or example that is to refuse it, or with `--all`
-every function, and prints what is refused; it ends with 1 where nothing was.
+every function, and prints what is refused, with the other examples that it met on the way; it ends with 1 where nothing
+was refused.
 """
 import re
 import shutil
@@ -81,7 +82,11 @@ def refused(copy, function):
     command = ["rt", "check", "--allow-holes"] + only
     done = subprocess.run(command, cwd=copy / "crates/sx_spec", capture_output=True, text=True)
     told = done.stdout + done.stderr
-    return re.findall(r"fn sx_spec::(\w+::\w+): not proved", told), told
+    if re.search(r"specs/\w+\.antt:\d+:\d+: error", told):
+        sys.exit(f"the planted text is no definition:\n{told}")
+    functions = re.findall(r"fn sx_spec::(\w+::\w+): not proved", told)
+    examples = re.findall(r"ExampleReplies\.antt:\d+:\d+: error: `(\w+)`", told)
+    return functions + [name for name in dict.fromkeys(examples) if f"examples::{name}" not in functions], told
 
 
 def main(words):

@@ -1,10 +1,8 @@
 -- Entries and replies in short words, for worked examples: one caller, one share, one moment.
 use Rattle.std.specs.Prelude.{ℕ, Bool, true, false, List, [], ◌∷◌, codes, Option, Some, None}
-use Rattle.sx_extent.specs.Ranges.{Interval}
 use Rattle.sx_guard.specs.declared.access.Access.{Access}
 use Rattle.sx_guard.specs.declared.access.Mode.{Mode}
 use Rattle.sx_guard.specs.Handle.{Handle}
-use Rattle.sx_guard.specs.Locks.{RangeLock}
 use Rattle.sx_lease.specs.declared.lease.LeaseId.{LeaseId}
 use Rattle.sx_call.specs.declared.calls.Call.{Call}
 use Rattle.sx_call.specs.declared.calls.Call.TheVariants as call
@@ -20,9 +18,7 @@ use Rattle.sx_call.specs.declared.shown.Shown.{Shown}
 use Rattle.sx_call.specs.declared.shown.Stamp.{Stamp}
 use Rattle.sx_call.specs.declared.targets.Target.{Target}
 use Rattle.sx_call.specs.declared.times.Time.TheVariants.{Keep}
-use Rattle.sx_call.specs.Opens.{OpenRights}
 use Rattle.sx_call.specs.Ranges.{BytesFrom}
-use Rattle.sx_call.specs.Leases.{ReadScope}
 use Rattle.sx_tree.specs.Node.{directory_attributes}
 use Rattle.sx_spec.specs.Account.{Account}
 use Rattle.sx_spec.specs.SessionCalls.{file_attributes, no_content}

@@ -8,15 +8,15 @@ use Rattle.sx_call.specs.declared.replies.Reply.TheVariants.{Gone, HandlesClosed
 use Rattle.sx_call.specs.declared.replies.Reply.TheVariants.{Snapped}
 use Rattle.sx_call.specs.declared.replies.SmbReply.TheVariants as answer
 use Rattle.sx_spec.specs.Account.{empty}
-use Rattle.sx_spec.specs.Examples.{file_a, file_b, double_s, close_handle, directory_made, directory_d, file_in_d}
+use Rattle.sx_spec.specs.Examples.{close_handle, directory_d, directory_made, double_s, file_a, file_b, file_in_d}
 use Rattle.sx_spec.specs.Examples.{file_made, finish_session, force_close, handle_at, lease_on, lock_handle}
 use Rattle.sx_spec.specs.Examples.{locked_by, make_directory, make_file, make_share, make_snapshot, new_year}
 use Rattle.sx_spec.specs.Examples.{no_handle, open_directory, open_file, open_to_remove, opened, part_of_file}
 use Rattle.sx_spec.specs.Examples.{properties, properties_set, read_file, read_handle, read_kept_file}
 use Rattle.sx_spec.specs.Examples.{read_properties, reading_shared, remove_directory, remove_file, remove_share}
-use Rattle.sx_spec.specs.Examples.{replies_from, set_length, set_quota, shared_by, sharp_s, stamp_at}
-use Rattle.sx_spec.specs.Examples.{stamped, start_session, started, to_read_and_delete, to_read_and_write}
-use Rattle.sx_spec.specs.Examples.{unlock_handle, update_file, whole_file, write_handle, writing_shared}
+use Rattle.sx_spec.specs.Examples.{replies_from, set_length, set_quota, shared_by, sharp_s, stamp_at, stamped}
+use Rattle.sx_spec.specs.Examples.{start_session, started, to_read_and_delete, to_read_and_write, unlock_handle}
+use Rattle.sx_spec.specs.Examples.{update_file, whole_file, write_handle, writing_shared}
 use Rattle.sx_spec.specs.Needs.{all_shared, to_read, to_write}
 
 -- An open that shares too little: the first reads and lets others write, so another that writes and lets others read
