@@ -1,3 +1,5 @@
+pub mod Computing
+pub mod ExampleReplies
 pub mod Refusals
 pub mod Checked
 pub mod Leases

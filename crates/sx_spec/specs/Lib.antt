@@ -17,3 +17,5 @@ pub mod History
 pub mod Whole
 pub mod Conflicts
 pub mod SnapshotLaw
+pub mod Examples
+pub mod Runs
