@@ -4,6 +4,14 @@ use Rattle.sx_text.specs.Texts.{IsNoText}
 use Rattle.sx_listing.specs.declared.body.BodyFault.{BodyFault}
 use Rattle.sx_listing.specs.declared.body.BodyFault.TheVariants.{Bad, NoMemory}
 
+-- the greatest number of 32 bits
+abbrev pub greatest_32 : ℕ
+greatest_32 = 4294967295
+
+-- the greatest number of 64 bits
+abbrev pub greatest_64 : ℕ
+greatest_64 = 18446744073709551615
+
 -- reading bytes answers their value, or the length of the longest prefix that begins such a body, or out of memory
 abbrev pub ReadsBody : {A : Type 0} → (A → List ℕ) → (A → Type 0) → List ℕ → Result A BodyFault → Type 0
 ReadsBody text Fits bytes (Ok value) = Fits value × (bytes ≡ text value)

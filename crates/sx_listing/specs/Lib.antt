@@ -1,5 +1,9 @@
 pub mod Body
 pub mod Error
+pub mod Handles
+pub mod HandlesReader
 pub mod Names
+pub mod NamesReader
 pub mod Percent
+pub mod PercentReader
 pub mod Ranges

@@ -3,12 +3,20 @@
 
 mod body;
 mod error;
+mod handles;
+mod handles_reader;
+mod moments;
 mod names;
+mod names_reader;
 mod percent;
+mod percent_reader;
 mod ranges;
 mod texts;
 
 pub use body::BodyFault;
 pub use error::{ErrorBody, errors_are_read_back, read_error, write_error};
+pub use handles::write_handles;
+pub use handles_reader::{handles_are_read_back, read_handles};
 pub use names::write_names;
+pub use names_reader::{names_are_read_back, read_names};
 pub use ranges::{MAX_OFFSET, ranges_are_read_back, read_ranges, write_ranges};

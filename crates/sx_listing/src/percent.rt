@@ -48,7 +48,8 @@ fn put_percent(bytes: &mut Vec<u8>, byte: u8) -> Result<(), NoMemory>
     Ok(())
 }
 
-fn is_unreserved(byte: u8) -> bool
+/// Whether a byte is written as it is.
+pub(crate) fn is_unreserved(byte: u8) -> bool
     ensures { result ≡ is_unreserved byte }
 {
     byte.is_ascii_digit()

@@ -38,6 +38,16 @@ abbrev pub behind : ℕ → Spot
 behind zero = Between
 behind (suc n) = Tail 128 191 n
 
+-- the spot behind a byte of UTF-8, or none where it can't stand at the spot
+abbrev pub spot_after : Spot → ℕ → Option Spot
+spot_after Between b = if nat_lt b 128 then Some Between else lead_of b
+spot_after (Tail low high more) b = if nat_le low b && nat_le b high then Some (behind more) else None
+spot_after Ampersand b = None
+spot_after WantsM b = None
+spot_after WantsP b = None
+spot_after (Tee code) b = None
+spot_after (Semi code) b = None
+
 -- bytes that are whole characters, from a spot on
 unfoldable pub Chars : Spot → List ℕ → Type 0
 Chars Between [] = Unit {0}

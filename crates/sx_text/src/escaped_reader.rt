@@ -1,7 +1,7 @@
 //! Reading a text in UTF-8 with the escapes of XML, with the place of its fault.
 ghost use Rattle.std.specs.Prelude.{◌≡◌, ℕ, List, Some, IfOk};
 ghost use Rattle.sx_text.specs.Given.{Gives};
-ghost use Rattle.sx_text.specs.Escapes.{lead_of, behind, escaped_step, escaped_at, escaped_after, IsWhole};
+ghost use Rattle.sx_text.specs.Escapes.{lead_of, behind, spot_after, escaped_step, escaped_at, escaped_after, IsWhole};
 ghost use Rattle.sx_text.specs.declared.escaped_reader.Spot.TheVariants.{Between, Tail, Ampersand};
 ghost use Rattle.sx_text.specs.Letters.{shown_letter};
 
@@ -86,6 +86,25 @@ fn behind(more: u8) -> Spot
             high: 191,
             more: more - 1,
         }
+    }
+}
+
+/// The spot behind a byte of UTF-8 (RFC 3629), or none where the byte can't stand at the spot.
+pub fn spot_after(spot: Spot, byte: u8) -> Option<Spot>
+    ensures { result ≡ spot_after spot byte }
+{
+    match spot {
+        Spot::Between => if byte < 128 {
+            Some(Spot::Between)
+        } else {
+            lead(byte)
+        },
+        Spot::Tail { low, high, more } => if low <= byte && byte <= high {
+            Some(behind(more))
+        } else {
+            None
+        },
+        _ => None,
     }
 }
 

@@ -13,7 +13,7 @@ mod number_reader;
 mod theorems;
 
 pub use digits_reader::{digits, digits_behind};
-pub use escaped_reader::{escaped_text, escaped_text_behind};
+pub use escaped_reader::{Spot, escaped_text, escaped_text_behind, spot_after};
 pub use fault::{Fault, Unread};
 pub use hex_reader::{hex_digits, hex_digits_behind};
 pub use literal_reader::{literal, next_is};
