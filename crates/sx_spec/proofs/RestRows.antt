@@ -18,7 +18,7 @@ use Rattle.sx_call.specs.declared.targets.Target.{Target}
 use Rattle.sx_call.specs.declared.times.Time.{Time}
 use Rattle.sx_call.specs.declared.refusals.Refusal.TheVariants as refusal
 use Rattle.sx_call.specs.declared.shown.Stamp.{Stamp}
-use Rattle.sx_tree.specs.Body.{with_ranges, update_within, clear_within}
+use Rattle.sx_tree.specs.Body.{with_ranges, update_within, clear_within, resized_by}
 use Rattle.sx_tree.specs.declared.node.Facts.{Facts}
 use Rattle.sx_tree.specs.declared.node.FileBody.{FileBody}
 use Rattle.sx_tree.specs.declared.node.Kind.{Kind}
@@ -32,7 +32,7 @@ use Rattle.sx_spec.specs.Checks.{first_check, file_checks}
 use Rattle.sx_spec.specs.Facts.{with_write, with_metadata, with_lease, new_facts, facts_over, new_file, length_of}
 use Rattle.sx_spec.specs.FileCalls.{new_node, make, create_directory, create_file, create_file_in, create_file_over}
 use Rattle.sx_spec.specs.FileCalls.{set_directory_metadata, delete_directory, set_file_properties, set_file_metadata}
-use Rattle.sx_spec.specs.FileCalls.{with_properties, changes_length, resized_by, update_range, clear_range, delete_file}
+use Rattle.sx_spec.specs.FileCalls.{with_properties, changes_length, update_range, clear_range, delete_file}
 use Rattle.sx_spec.specs.FileCalls.{lease_file, force_close_handles, is_matched}
 use Rattle.sx_moment.specs.Moments.{IsShownMoment}
 use Rattle.sx_call.specs.FieldLimits.{IsTime}

@@ -32,7 +32,7 @@ use Rattle.sx_spec.specs.Facts.{facts_over}
 use Rattle.sx_spec.specs.Trees.{with_facts}
 use Rattle.sx_tree.specs.Tree.{is_empty}
 use Rattle.sx_spec.specs.Facts.{length_of}
-use Rattle.sx_tree.specs.Body.{with_ranges, update_within, clear_within, resize_within}
+use Rattle.sx_tree.specs.Body.{with_ranges, update_within, clear_within, resized_by}
 use Rattle.sx_tree.specs.Pages.{names_page}
 use Rattle.sx_listing.specs.Names.{names_text}
 use Rattle.sx_listing.specs.Ranges.{ranges_text}
@@ -188,11 +188,6 @@ with_properties now resized attributes created written f = record (with_stamp no
   created = time_given now.changed f.created created;
   written = time_given now.changed (if resized then now.changed else f.written) written;
 }
-
--- a file of the length that is given, if any
-abbrev pub resized_by : Option ℕ → SparseFile → SparseFile
-resized_by None f = f
-resized_by (Some bytes) f = resize_within bytes f
 
 -- Set File Properties: it replaces the six content headers, and what it gives of length, attributes and times
 abbrev pub set_file_properties : Store → Stamp → Call → Option ℕ → Content → Option Attributes → Time → Time

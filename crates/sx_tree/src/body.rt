@@ -1,6 +1,6 @@
 //! What a call does to the body of a file, as data.
 ghost use Rattle.std.specs.Prelude.{◌≡◌, ◌+◌, nat_le, length, OnOk, OnErr};
-ghost use Rattle.sx_tree.specs.Body.{body_after, clear_within, resize_within, update_within, write_within};
+ghost use Rattle.sx_tree.specs.Body.{body_after, clear_within, resize_within, resized_by, update_within, write_within};
 ghost use Rattle.sx_tree.specs.Tree.{with_body};
 
 use crate::node::{FileBody, Kind};
@@ -37,6 +37,13 @@ pub enum BodyChange {
     Resize(u64),
     /// The file gets content headers.
     Content(Content),
+    /// The file gets the length that is given, if one is, and content headers.
+    Reshape {
+        /// The length, in bytes.
+        length: Option<u64>,
+        /// The content headers.
+        content: Content,
+    },
     /// The file gets another body.
     Replace(FileBody),
 }
@@ -68,6 +75,15 @@ impl FileBody {
             BodyChange::Content(content) => {
                 self.content = content;
                 Ok(())
+            }
+            BodyChange::Reshape { length, content } => {
+                match resize_by(&mut self.ranges, length) {
+                    Ok(()) => {
+                        self.content = content;
+                        Ok(())
+                    }
+                    Err(failed) => Err(failed),
+                }
             }
             BodyChange::Replace(body) => {
                 *self = body;
@@ -133,4 +149,15 @@ fn resize(ranges: &mut Ranges, length: u64) -> Result<(), NoMemory>
         return Ok(());
     }
     ranges.resize(length)
+}
+
+/// Sets a length that is given, if one is.
+fn resize_by(ranges: &mut Ranges, length: Option<u64>) -> Result<(), NoMemory>
+    ensures ok { OnOk result (ranges.new ≡ resized_by length ranges.old) }
+    ensures err { OnErr result (ranges.new ≡ ranges.old) }
+{
+    match length {
+        Some(length) => resize(ranges, length),
+        None => Ok(()),
+    }
 }

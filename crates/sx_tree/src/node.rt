@@ -6,6 +6,7 @@ ghost use Rattle.sx_tree.specs.Node.{directory_attributes, is_directory, kind_le
 use std::alloc::Global;
 use sx_extent::Ranges;
 use sx_lease::FileLease;
+use sx_moment::Moment;
 use sx_names::{Attributes, Content, Meta};
 
 /// The most granules that a file has: those of 4 TiB.
@@ -16,12 +17,12 @@ pub(crate) const GRANULES_LIMIT: u64 = 8_589_934_592;
 pub struct Facts {
     /// The place in the history of the entry that changed it last, which is its ETag.
     pub etag: u64,
-    /// The moment of its creation, in ticks of 100 ns since 1970.
-    pub created: u64,
-    /// The moment at which its bytes were written last, in ticks of 100 ns since 1970.
-    pub written: u64,
-    /// The moment at which it was changed last, in ticks of 100 ns since 1970.
-    pub changed: u64,
+    /// The moment of its creation.
+    pub created: Moment,
+    /// The moment at which its bytes were written last.
+    pub written: Moment,
+    /// The moment at which it was changed last.
+    pub changed: Moment,
     /// Its attributes of SMB.
     pub attributes: Attributes,
     /// Its metadata.
@@ -115,7 +116,7 @@ impl Kind {
 
 impl Facts {
     /// The facts of the root of a share that was made at a moment by the entry at a place of the history.
-    pub(crate) fn root(alloc: Global, at: u64, place: u64) -> Facts
+    pub(crate) fn root(alloc: Global, at: Moment, place: u64) -> Facts
         ensures { result ≡ root_facts at place }
     {
         Facts {

@@ -20,6 +20,7 @@ use std::alloc::Global;
 use std::collections::BTreeMap;
 use std::marker::Model;
 use sx_memory::NoMemory;
+use sx_moment::Moment;
 use sx_names::{Folded, Part};
 
 /// The directories and files of a share, by their ids.
@@ -48,7 +49,7 @@ impl Model for Tree {
 impl Tree {
     /// A tree with a root of this id alone, of a share that was made at a moment by the entry at a place of the
     /// history.
-    pub fn new(alloc: Global, root: u64, at: u64, place: u64) -> Result<Tree, NoMemory>
+    pub fn new(alloc: Global, root: u64, at: Moment, place: u64) -> Result<Tree, NoMemory>
         ensures { IfOk result (λ tree. tree ≡ new_nodes root at place) }
     {
         let mut nodes = BTreeMap::new(alloc);

@@ -4,6 +4,7 @@ use std::process::Abort;
 use sx_base::Items;
 use sx_extent::{PIECE_LIMIT, Piece, Ranges};
 use sx_lease::FileLease;
+use sx_moment::Moment;
 use sx_names::{Attributes, Content, Meta, Part, Path, Text};
 use sx_tree::{Facts, FileBody, Kind, Node, Tree};
 
@@ -49,9 +50,9 @@ pub fn path(rt: &impl Abort, alloc: Global, path: &str) -> Path {
 fn facts(alloc: Global) -> Facts {
     Facts {
         etag: 1,
-        created: 1,
-        written: 1,
-        changed: 1,
+        created: Moment::of(1),
+        written: Moment::of(1),
+        changed: Moment::of(1),
         attributes: Attributes {
             read_only: false,
             hidden: false,
@@ -134,7 +135,7 @@ pub fn make_directory(
 
 /// A tree with a root of id 1 alone.
 pub fn root(rt: &impl Abort, alloc: Global) -> Tree {
-    match Tree::new(alloc, 1, 7, 8) {
+    match Tree::new(alloc, 1, Moment::of(7), 8) {
         Ok(tree) => tree,
         Err(_) => panic!(rt; "no memory"),
     }

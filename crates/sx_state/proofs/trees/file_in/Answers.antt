@@ -1,0 +1,10 @@
+use Rattle.std.proofs.Common.{◌≡◌, sym, ◌∙◌}
+use Rattle.std.proofs.lemmas.Map.Steps.{set_value_same}
+use Rattle.std.proofs.lemmas.Result.{on_err_weaker}
+use Rattle.sx_state.proofs.trees.file_in.Goals as goal
+
+pub returns-in-Some-clause-err : goal.returns-in-Some-clause-err
+returns-in-Some-clause-err c =
+    on_err_weaker c.file_in_share.result
+    (λ (same : c.file_in_share.new.share ≡ c.in-Some.share.now). (c.get_mut.follows.holds c.file_in_share.new.share).0 ∙ rw same (set_value_same _ _ _ (sym (rw c.in-Some.is at c.get_mut.ensures.value))))
+    c.file_in_share.ensures.err

@@ -1,0 +1,5 @@
+pub mod State
+pub mod Spots
+pub mod Refused
+pub mod Changed
+pub mod Ids
