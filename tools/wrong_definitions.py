@@ -61,6 +61,12 @@ WRONG = [
     ("delete_on_close_unheeded", "examples::a_file_is_deleted_on_close", "Changes.antt",
      "x.node.facts.pending || (on_close && (not (is_directory x.node.kind) || length x.below == 0))",
      "x.node.facts.pending"),
+    ("given_metadata_dropped", "laws::snapshots_read_as_the_share_stood", "Shares.antt",
+     "meta = meta_or meta s.meta;", "meta = s.meta;"),
+    ("another_snapshot_deleted", "laws::snapshots_read_as_the_share_stood", "Shares.antt",
+     "filter (λ x. not (is_of_moment moment x)) s.snapshots", "filter (λ x. is_of_moment moment x) s.snapshots"),
+    ("snapshot_not_at_rest", "laws::snapshots_read_as_the_share_stood", "Shares.antt",
+     "  tree = tree_at_rest s.tree;", "  tree = s.tree;"),
     ("scope_always_recursive", "examples::handles_are_closed_by_scope", "Pages.antt",
      "o.node == id || (recursive && is_under t id o.node)", "o.node == id || is_under t id o.node"),
 ]
