@@ -1,20 +1,15 @@
 -- The bodies that list shares and handles ("List Shares" and "List Handles" of Azure Files): their texts.
-use Rattle.std.specs.Prelude.{codes, ℕ, zero, suc, ◌/◌, ◌%◌, List, [], ◌∷◌, ◌++◌, Option, Some, None}
+use Rattle.std.specs.Prelude.{codes, ℕ, ◌/◌, ◌%◌, List, [], ◌∷◌, Option, Some, None}
 use Rattle.std.specs.List.{concat, flat_map}
 use Rattle.std.specs.Fmt.{decimal}
 use Rattle.sx_text.specs.Escapes.{escaped}
+use Rattle.sx_text.specs.Hex.{hex_text}
 use Rattle.sx_guard.specs.Handle.{Handle}
-use Rattle.sx_listing.specs.Percent.{upper_digit}
 use Rattle.sx_call.specs.declared.pages.HandleItem.{HandleItem}
 use Rattle.sx_call.specs.declared.pages.HandlesPage.{HandlesPage}
 use Rattle.sx_call.specs.declared.pages.ShareItem.{ShareItem}
 use Rattle.sx_call.specs.declared.pages.SharesPage.{SharesPage}
 use Rattle.sx_spec.specs.Calendar.{utc_text, header_date}
-
--- the last so many hexadecimal digits of a number
-abbrev pub upper_hex : ℕ → ℕ → List ℕ
-upper_hex zero n = []
-upper_hex (suc count) n = upper_hex count (n / 16) ++ upper_digit (n % 16) ∷ []
 
 -- a snapshot's moment; a share as it stands has none
 abbrev pub snapshot_text : Option ℕ → List ℕ
@@ -28,7 +23,7 @@ share_text item =
     codes "<Share><Name>" ∷ escaped item.name
     ∷ codes "</Name>" ∷ snapshot_text item.snapshot
     ∷ codes "<Properties><Last-Modified>" ∷ header_date item.changed
-    ∷ codes "</Last-Modified><Etag>\"0x" ∷ upper_hex 16 item.etag
+    ∷ codes "</Last-Modified><Etag>\"0x" ∷ hex_text 16 item.etag
     ∷ codes "\"</Etag><Quota>" ∷ decimal item.quota
     ∷ codes "</Quota></Properties></Share>" ∷ [])
 
