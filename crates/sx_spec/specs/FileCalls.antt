@@ -34,9 +34,9 @@ use Rattle.sx_tree.specs.Tree.{is_empty}
 use Rattle.sx_spec.specs.Facts.{length_of}
 use Rattle.sx_tree.specs.Body.{with_ranges, update_within, clear_within, resized_by}
 use Rattle.sx_tree.specs.Pages.{names_page}
+use Rattle.sx_listing.specs.Handles.{handles_text}
 use Rattle.sx_listing.specs.Names.{names_text}
 use Rattle.sx_listing.specs.Ranges.{ranges_text}
-use Rattle.sx_spec.specs.Bodies.{handles_text}
 use Rattle.sx_spec.specs.declared.checks.OpenAsk.{OpenAsk}
 use Rattle.sx_spec.specs.declared.checks.OpenAsk.TheVariants.{AnyOpens, Beside, NoneChanging}
 use Rattle.sx_spec.specs.declared.checks.LeaseAsk.TheVariants.{Acts}

@@ -5,6 +5,7 @@ use Rattle.std.specs.Prelude.{option_map, unwrap_or}
 use Rattle.std.specs.List.{starts_with}
 use Rattle.std.specs.Ordering.{nat_cmp, is_lt}
 use Rattle.std.specs.Cmp.Lexicographic.{slice_cmp}
+use Rattle.sx_base.specs.Moment.{moment_text}
 use Rattle.sx_guard.specs.Handle.{handle_before}
 use Rattle.sx_guard.specs.Ordered.{insert_by}
 use Rattle.sx_guard.specs.Handle.{Handle}
@@ -19,7 +20,6 @@ use Rattle.sx_tree.specs.Tree.{Nodes, node_at}
 use Rattle.sx_tree.specs.Climbs.{path_of, is_under}
 use Rattle.sx_tree.specs.declared.share.Share.{Share}
 use Rattle.sx_tree.specs.declared.share.Snapshot.{Snapshot}
-use Rattle.sx_spec.specs.Calendar.{utc_text}
 use Rattle.sx_spec.specs.Account.{Store, peer_of}
 
 -- Shares, in order of name, each before its snapshots, which are in order of moment.
@@ -65,7 +65,7 @@ is_from (Some m) x =
 -- the marker that names a share of a name, or its snapshot of a moment
 abbrev pub marker_at : List ℕ → Option ℕ → List ℕ
 marker_at name None = name
-marker_at name (Some moment) = name ++ codes "@" ++ utc_text moment
+marker_at name (Some moment) = name ++ codes "@" ++ moment_text moment
 
 -- the text of a marker, empty where there is none
 abbrev pub marker_text : Option SharesMarker → List ℕ
