@@ -1,4 +1,3 @@
 pub mod Closed
-pub mod Grows
 pub mod Own
 pub mod SessionWords

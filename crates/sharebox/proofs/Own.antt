@@ -1,5 +1,5 @@
 -- An office of two callers has no entries of others.
-use Rattle.std.proofs.Common.{ℕ, ◌+◌, ◌<◌, ◌≤◌, ◌≡◌, ◌≢◌, ◌==◌, ◌⊎◌, if◌then◌else◌, max, Bool, true, false, List, [], ◌∷◌, ◌++◌, length, refl, sym, ap, ◌∙◌, subst, arith, inl, inr}
+use Rattle.std.proofs.Common.{ℕ, ◌+◌, ◌<◌, ◌≡◌, ◌≢◌, ◌==◌, if◌then◌else◌, max, true, false, List, [], ◌∷◌, ◌++◌, drop, refl, sym, ap, ◌∙◌, subst, arith}
 use Rattle.std.specs.List.{AllByRecursion}
 use Rattle.std.proofs.lemmas.Bool.Decides.{nat_tests}
 use mathlib.Core.List.{IsPrefix}
@@ -9,12 +9,11 @@ use Rattle.sx_stage_call.specs.declared.call.Noted.{Noted}
 use Rattle.sx_stage_spec.specs.History.{noted_at}
 use Rattle.sx_stage_spec.specs.Step.{replay}
 use Rattle.sx_turn.specs.Places.{places, places_from, times}
+use Rattle.sx_turn.specs.Seats.{TableId}
 use Rattle.sx_turn.proofs.Lists.{each_map}
-use Rattle.sx_turn.proofs.Places.{places_append}
-use Rattle.sx_book.specs.Passes.{GrowsByOthers, caller_of, with_noted}
-use Rattle.sharebox.specs.Command.{IsOwnHistory, creation, share_quota}
-use Rattle.sharebox.specs.Opening.{creation_behind}
-use Rattle.sharebox.proofs.Grows.{AreBehind}
+use Rattle.sx_book.specs.Passes.{PassView, GrowsByOthers, caller_of, with_noted, after_entry, first_pass, new_pass, pass_after_look}
+use Rattle.sharebox.specs.Command.{creation, first_history, share_quota, history_limit, session_caller}
+use Rattle.sharebox.specs.Opening.{creation_behind, HasMade, HasOpened}
 
 -- a caller without places has no entry
 no_entry : (n k : ℕ) (log : List Noted) → places_from caller_of n k log ≡ [] → AllByRecursion (λ e. e.entry.who ≢ n) log
@@ -24,33 +23,6 @@ no_entry n k (x ∷ xs) e =
       | true ↦ λ t g. absurd (cc g)
       | false ↦ λ t g. ((λ is. let yes : (n == x.entry.who) ≡ true = grind (arith, nat_tests) in absurd (cc (yes, t))), no_entry n (k + 1) xs g)
     ] refl e
-
--- places in a list lie within it
-first_within : (n k : ℕ) (log : List Noted) (p : ℕ) (ps : List ℕ) → places_from caller_of n k log ≡ p ∷ ps → p < k + length log
-first_within n k [] p ps e = cc
-first_within n k (x ∷ xs) p ps e =
-    elim (n == x.entry.who) as (λ b. (if b then k ∷ [] else []) ++ places_from caller_of n (k + 1) xs ≡ p ∷ ps → p < k + length (x ∷ xs)) [
-      | true ↦ λ g. let same : k ≡ p = cc g in omega (arith, same)
-      | false ↦ λ g. let lt = first_within n (k + 1) xs p ps g in omega (arith, lt)
-    ] e
-
-none_behind : (n : ℕ) (log : List Noted) (ps more : List ℕ) → places_from caller_of n 1 log ≡ ps → AreBehind (length log) (ps ++ more) → ps ≡ []
-none_behind n log [] more is behind = refl
-none_behind n log (p ∷ ps) more is behind = let lt = first_within n 1 log p ps is in absurd (omega (arith, lt, behind.0))
-
--- a caller whose places all lie behind a list has no entry in it
-pub none_before : (n : ℕ) (log rest : List Noted) (mine : List ℕ) → mine ≡ places caller_of n (log ++ rest) → AreBehind (length log) mine → AllByRecursion (λ e. e.entry.who ≢ n) log
-none_before n log rest mine is behind =
-    let split : mine ≡ places_from caller_of n 1 log ++ places_from caller_of n (1 + length log) rest = is ∙ places_append caller_of n 1 log rest in
-    no_entry n 1 log (none_behind n log (places_from caller_of n 1 log) (places_from caller_of n (1 + length log) rest) refl (subst (AreBehind (length log)) split behind))
-
--- a number of two pairs is that of one of them
-of_two : (who : ℕ) (a b : List ℕ) → times who ((0, a) ∷ (1, b) ∷ []) ≡ 1 → who ≢ 1 → who ≡ 0
-of_two who a b h ne =
-    elim (who == 0) as (λ c. (who == 0) ≡ c → (if c then 1 else 0) + ((if who == 1 then 1 else 0) + 0) ≡ 1 → who ≡ 0) [
-      | true ↦ λ t g. grind (arith, nat_tests)
-      | false ↦ λ t g. let no : (who == 1) ≡ false = grind (arith, nat_tests) in let z : 0 ≡ 1 = rw no at g in cc
-    ] refl h
 
 of_other : (who : ℕ) (a b : List ℕ) → times who ((0, a) ∷ (1, b) ∷ []) ≡ 1 → who ≢ 0 → who ≡ 1
 of_other who a b h ne =
@@ -86,34 +58,45 @@ append_none : (xs : List Noted) → xs ++ [] ≡ xs
 append_none [] = refl
 append_none (x ∷ xs) = ap (λ (l : List Noted). x ∷ l) (append_none xs)
 
--- the history of an office that closed with two callers, the second of which came behind what the first had seen
-pub own_history : (share : List ℕ) (moment : ℕ) (found first whole : List Noted) (main mine : List ℕ)
-    → GrowsByOthers 0 [] found → GrowsByOthers 0 (with_noted found (creation_behind found share moment)) first
-    → IsPrefix first whole → AreBehind (length first) mine
-    → AllByRecursion (λ n. times (caller_of n) ((0, main) ∷ (1, mine) ∷ []) ≡ 1) whole
-    → main ≡ (length found + 1) ∷ [] → main ≡ places caller_of 0 whole → mine ≡ places caller_of 1 whole → IsOwnHistory share moment first whole
-own_history share moment found first whole main mine others since begins behind owned main_is main_places mine_places =
-    let rest : List Noted = begins.0 in
-    let whole_is : whole ≡ first ++ rest = sym begins.1 in
-    let c : Entry = creation_behind found share moment in
-    let owned_all : AllByRecursion (λ n. times (caller_of n) ((0, main) ∷ (1, mine) ∷ []) ≡ 1) (first ++ rest) = subst (AllByRecursion (λ n. times (caller_of n) ((0, main) ∷ (1, mine) ∷ []) ≡ 1)) whole_is owned in
-    let not_second : AllByRecursion (λ n. n.entry.who ≢ 1) first = none_before 1 first rest mine (mine_places ∙ ap (λ (l : List Noted). places caller_of 1 l) whole_is) behind in
-    let all_first : AllByRecursion (λ n. n.entry.who ≡ 0) first = each_map _ (λ n. n.entry.who ≡ 0) (λ n h. of_two n.entry.who main mine h.0 h.1) first (each_both _ _ first (each_front _ first rest owned_all) not_second) in
-    let parts : AllByRecursion (λ n. n.entry.who ≡ 0) (with_noted found c ++ since.0) = subst (AllByRecursion (λ n. n.entry.who ≡ 0)) since.1 all_first in
-    let more_none : since.0 ≡ [] = none_such 0 since.0 (each_rest _ (with_noted found c) since.0 parts) since.2 in
-    let found_is : found ≡ others.0 = others.1 in
-    let found_others : AllByRecursion (λ n. n.entry.who ≢ 0) found = subst (AllByRecursion (λ n. n.entry.who ≢ 0)) (sym found_is) others.2 in
-    let found_none : found ≡ [] = none_such 0 found (each_front _ found (noted_at (replay found) c ∷ []) (each_front _ (with_noted found c) since.0 parts)) found_others in
-    let first_is : first ≡ with_noted [] (creation share moment) =
-    since.1 ∙ (ap (λ (l : List Noted). with_noted found c ++ l) more_none ∙ (append_none (with_noted found c)
-    ∙ (ap (λ (l : List Noted). with_noted l (creation_behind l share moment)) found_none ∙ ap (λ (e : Entry). with_noted [] e) (first_creation share moment)))) in
-    let one : (1 ∷ []) ++ places_from caller_of 0 2 rest ≡ 1 ∷ [] =
-    let own : places caller_of 0 whole ≡ (1 ∷ []) ++ places_from caller_of 0 2 rest = ap (λ (l : List Noted). places caller_of 0 l) (whole_is ∙ ap (λ (l : List Noted). l ++ rest) first_is) in
-    sym own ∙ (sym main_places ∙ (main_is ∙ ap (λ (l : List Noted). (length l + 1) ∷ []) found_none)) in
-    let rest_others : AllByRecursion (λ n. n.entry.who ≢ 0) rest = no_entry 0 2 rest (cc one) in
+-- entries of callers below 1 are those of caller 0
+below_one : (xs : List Noted) → AllByRecursion (λ x. caller_of x < 1) xs → AllByRecursion (λ x. x.entry.who ≡ 0) xs
+below_one xs h = each_map (λ x. caller_of x < 1) (λ x. x.entry.who ≡ 0) (λ x l. omega (arith, l)) xs h
+
+-- where all callers so far are caller 0, nothing was found before its entry, nor behind it
+pub opened_by : (office : TableId) (share : List ℕ) (moment : ℕ) (made main pass : PassView) → HasMade office share moment made
+    → pass ≡ new_pass made pass.number pass.seen → pass.number ≡ session_caller → AllByRecursion (λ n. caller_of n < pass.number) pass.seen → main ≡ pass_after_look pass.seen (pass.number + 1) made
+    → GrowsByOthers made.number made.seen main.seen → HasOpened office share moment main pass
+opened_by office share moment made main pass m new number below look grows =
+    let c : Entry = creation_behind m.found share moment in
+    let own : List Noted = with_noted m.found c in
+    let made_number : made.number ≡ 0 = ap (λ (p : PassView). p.number) m.main_is in
+    let made_seen : made.seen ≡ own = ap (λ (p : PassView). p.seen) m.main_is in
+    let main_seen : main.seen ≡ pass.seen = ap (λ (p : PassView). p.seen) look in
+    let since : GrowsByOthers 0 own pass.seen = subst (λ (x : ℕ × List Noted × List Noted). GrowsByOthers x.0 x.1 x.2) (λ j. (made_number j, made_seen j, main_seen j)) grows in
+    let all : AllByRecursion (λ x. x.entry.who ≡ 0) (own ++ since.0) = subst (AllByRecursion (λ x. x.entry.who ≡ 0)) since.1 (below_one pass.seen (subst (λ (n : ℕ). AllByRecursion (λ x. caller_of x < n) pass.seen) number below)) in
+    let more_none : since.0 ≡ [] = none_such 0 since.0 (each_rest _ own since.0 all) since.2 in
+    let found_others : AllByRecursion (λ n. n.entry.who ≢ 0) m.found = subst (AllByRecursion (λ n. n.entry.who ≢ 0)) (sym m.others.1) m.others.2 in
+    let found_none : m.found ≡ [] = none_such 0 m.found (each_front _ m.found (noted_at (replay m.found) c ∷ []) (each_front _ own since.0 all)) found_others in
+    let first : (l : List Noted) → l ≡ [] → with_noted l (creation_behind l share moment) ≡ first_history share moment = λ l e. ap (λ (x : List Noted). with_noted x (creation_behind x share moment)) e ∙ ap (λ (x : Entry). with_noted [] x) (first_creation share moment) in
+    let seen : pass.seen ≡ first_history share moment = since.1 ∙ (ap (λ (l : List Noted). own ++ l) more_none ∙ (append_none own ∙ first m.found found_none)) in
+    let made_is : made ≡ after_entry [] (creation share moment) (first_pass office history_limit) =
+    m.main_is ∙ (ap (λ (l : List Noted). after_entry l (creation_behind l share moment) (first_pass office history_limit)) found_none ∙ ap (λ (x : Entry). after_entry [] x (first_pass office history_limit)) (first_creation share moment)) in
+    let look_is : main ≡ pass_after_look (first_history share moment) (session_caller + 1) made = look ∙ ap (λ (x : List Noted × ℕ). pass_after_look x.0 (x.1 + 1) made) (λ j. (seen j, number j)) in
+    let same_pass : new_pass made session_caller (first_history share moment) ≡ new_pass main session_caller (first_history share moment) =
+    ap (λ (x : TableId × ℕ). record { office = x.0; limit = x.1; number = session_caller; seen = first_history share moment; mine = []; ended = []; known = session_caller + 1 }) (λ j. (sym (ap (λ (p : PassView). p.office) look_is) j, sym (ap (λ (p : PassView). p.limit) look_is) j)) in
     record {
-      begins = first_is;
-      rest = rest;
-      goes_on = whole_is;
-      own = each_map _ (λ n. n.entry.who ≡ 1) (λ n h. of_other n.entry.who main mine h.0 h.1) rest (each_both _ _ rest (each_rest _ first rest owned_all) rest_others);
+      main_is = look_is ∙ ap (λ (p : PassView). pass_after_look (first_history share moment) (session_caller + 1) p) made_is;
+      pass_is = new ∙ (ap (λ (x : ℕ × List Noted). new_pass made x.0 x.1) (λ j. (number j, seen j)) ∙ same_pass);
     }
+
+-- in a history that begins with the first caller's one entry, all others are the second's
+pub own_rest : (share : List ℕ) (moment : ℕ) (whole : List Noted) (mine : List ℕ) → IsPrefix (first_history share moment) whole → AllByRecursion (λ n. times (caller_of n) ((0, 1 ∷ []) ∷ (1, mine) ∷ []) ≡ 1) whole
+    → 1 ∷ [] ≡ places caller_of 0 whole → AllByRecursion (λ n. n.entry.who ≡ session_caller) (drop 1 whole)
+own_rest share moment whole mine begins owned places_are =
+    let rest : List Noted = begins.0 in
+    let one : (1 ∷ []) ++ places_from caller_of 0 2 rest ≡ 1 ∷ [] = ap (places caller_of 0) begins.1 ∙ sym places_are in
+    let others : AllByRecursion (λ n. n.entry.who ≢ 0) rest = no_entry 0 2 rest (cc one) in
+    let owned_rest : AllByRecursion (λ n. times (caller_of n) ((0, 1 ∷ []) ∷ (1, mine) ∷ []) ≡ 1) rest =
+    each_rest _ (first_history share moment) rest (subst (AllByRecursion (λ n. times (caller_of n) ((0, 1 ∷ []) ∷ (1, mine) ∷ []) ≡ 1)) (sym begins.1) owned) in
+    subst (λ (l : List Noted). AllByRecursion (λ n. n.entry.who ≡ session_caller) (drop 1 l)) begins.1
+    (each_map _ (λ n. n.entry.who ≡ 1) (λ n h. of_other n.entry.who (1 ∷ []) mine h.0 h.1) rest (each_both _ _ rest owned_rest others))

@@ -1,18 +1,21 @@
 -- What the program does by its words, and the statuses that it ends with.
-use Rattle.std.specs.Prelude.{ℕ, codes, ◌≡◌, ◌≤◌, ◌⊎◌, true, List, [], ◌∷◌, ◌++◌, Bool, false, Option, Some, None}
+use Rattle.std.specs.Prelude.{ℕ, codes, ◌≡◌, ◌≤◌, ◌⊎◌, true, List, [], ◌∷◌, drop, Bool, false, Option, Some, None}
 use Rattle.std.specs.Prelude.{Result, Ok, Err}
 use Rattle.std.specs.List.{AllByRecursion}
+use mathlib.Core.List.{IsPrefix}
 use Rattle.sx_base.specs.Causes.{Rose}
+use Rattle.sx_base.specs.Sides.{Sides}
 use Rattle.sx_stage_call.specs.declared.call.Call.TheVariants.{CreateShare}
 use Rattle.sx_stage_call.specs.declared.call.Entry.{Entry}
 use Rattle.sx_stage_call.specs.declared.call.Noted.{Noted}
 use Rattle.sx_names.specs.Names.{is_share_name}
+use Rattle.sx_stage_spec.specs.History.{History, IsHistory}
 use Rattle.sx_book.specs.Passes.{with_noted}
 use Rattle.sx_book.specs.declared.report.Full.{Full}
 use Rattle.sx_book.specs.declared.report.ConnEnd.{ConnEnd}
 use Rattle.sx_book.specs.declared.report.ConnEnd.TheVariants as finish
 use Rattle.sx_book.specs.declared.report.ConnReport.{ConnReport}
-use Rattle.sx_smb_door.specs.Conversation.{Conversation, HasText, HasPrefix, SessionState}
+use Rattle.sx_smb_door.specs.Conversation.{Conversation, HasText, HasPrefix, LinkState, Visit}
 use Rattle.sx_tool.specs.Tools.{Streams, Signs, Checks}
 use Rattle.sx_tool.specs.Typed.{IsSign, IsCheck, IsUnknown}
 use Rattle.sharebox.specs.declared.command.Command.{Command}
@@ -93,32 +96,28 @@ abbrev pub status_after_close : {A B : Type 0} → Result A B → ConnReport →
 status_after_close (Ok book) report = status_of report
 status_after_close (Err fault) report = status_of (record report { starved = true })
 
--- the program's input, its output and its clock, before or after a run: what the input has left, where it tells it,
--- and the counts of failed reads and writes
+-- the program's input and output, and its clock, before or after a run
 pub record Outside (K C : Type 0) : Type 0 where
-  pub left : Option (List ℕ)
-  pub reads : ℕ
+  pub sides : Sides
   pub out : K
-  pub writes : ℕ
   pub clock : C
 
 -- the streams of a command over a head
 abbrev pub streams_of : {K C : Type 0} → Outside K C → Streams K
-streams_of o = record { left = o.left; reads = o.reads; out = o.out; writes = o.writes }
+streams_of o = record { sides = o.sides; out = o.out }
 
--- the state of a session whose pass has seen this list, with these places of its own
-abbrev pub session_state : {K C : Type 0} → Outside K C → List Noted → List ℕ → SessionState C
-session_state o seen mine =
-    record { left = o.left; reads = o.reads; writes = o.writes; seen = seen; mine = mine; clock = o.clock }
+-- the link of a session, with its clock
+abbrev pub link_of : {K C : Type 0} → Outside K C → LinkState C
+link_of o = record { sides = o.sides; clock = o.clock }
 
 -- the words are no command: the refusal was written, or a prefix of it where the write failed; nothing was read
 pub record RefusesWords {K C : Type 0} (wrote : K → List ℕ → Type 0) (words : List (List ℕ)) (old new : Outside K C)
     (status : ℕ) : Type 0 where
   pub unknown : IsNoCommand words
   pub status_is : status ≡ 1
-  pub kept : new ≡ record old { out = new.out; writes = new.writes }
+  pub kept : new ≡ record old { sides = record old.sides { writes = new.sides.writes }; out = new.out }
   pub written : HasText (wrote old.out) (wrote new.out) refusal_line
-      ⊎ (HasPrefix (wrote old.out) (wrote new.out) refusal_line × Rose old.writes new.writes)
+      ⊎ (HasPrefix (wrote old.out) (wrote new.out) refusal_line × Rose old.sides.writes new.sides.writes)
 
 -- no memory was left to read the words: nothing was read or written
 pub record LacksMemory {K C : Type 0} (old new : Outside K C) (status : ℕ) : Type 0 where
@@ -126,49 +125,58 @@ pub record LacksMemory {K C : Type 0} (old new : Outside K C) (status : ℕ) : T
   pub same : new ≡ old
 
 -- no memory was left before the session, or the office gave no pass for it: nothing was read or written
-pub record IsNotServed {C : Type 0} (wrote wrote' : List ℕ → Type 0) (old new : SessionState C) (status : ℕ)
+pub record IsNotServed {C : Type 0} (wrote wrote' : List ℕ → Type 0) (old new : LinkState C) (status : ℕ)
     : Type 0 where
   pub status_is : status ≡ 5
-  pub kept : new ≡ record old { clock = new.clock }
+  pub unread : new.sides ≡ old.sides
   pub written : HasText wrote wrote' []
 
--- the history of the program alone: its Create Share, and behind that entries of the session's caller alone
-pub record IsOwnHistory (share : List ℕ) (moment : ℕ) (first whole : List Noted) : Type 0 where
-  pub begins : first ≡ with_noted [] (creation share moment)
-  pub rest : List Noted
-  pub goes_on : whole ≡ first ++ rest
-  pub own : AllByRecursion (λ n. n.entry.who ≡ session_caller) rest
+-- the history with its share made, and nothing else
+abbrev pub first_history : List ℕ → ℕ → List Noted
+first_history share moment = with_noted [] (creation share moment)
 
--- the office was closed, and its history is the program's own
-pub record IsClosed (share : List ℕ) (moment : ℕ) (first seen : List Noted) (report : ConnReport) (status : ℕ)
-    : Type 0 where
-  pub history : IsOwnHistory share moment first seen
-  pub status_is : status ≡ status_of report
+-- the program's history of these entries: it begins with the program's own Create Share, and is legal
+pub record IsProgramHistory (share : List ℕ) (moment : ℕ) (entries : List Noted) : Type 0 where
+  pub opening : IsPrefix (first_history share moment) entries
+  pub legal : IsHistory history_limit entries
 
--- the office could not be closed, since passes were out: that counts as out of memory
-pub record IsNotClosed (report : ConnReport) (status : ℕ) : Type 0 where
-  pub out : ℕ
-  pub some : 1 ≤ out
-  pub status_is : status ≡ status_of (record report { starved = true })
+-- the program's session on a share, in the history of these entries, of which it had seen the first
+abbrev pub session_visit : List ℕ → List Noted → Visit
+session_visit share entries = record {
+  who = session_caller;
+  peer = loopback;
+  share = share;
+  budget = input_budget;
+  history = record { entries = entries; limit = history_limit };
+  from = 1;
+}
 
--- the share was made at a moment, and the session was served behind what was seen then; then the office was closed,
--- or could not be
+-- how the office was closed: its book is the history of these entries, of which all behind the first are those of the
+-- session's caller; or it could not be closed, since so many passes were out
+abbrev pub Closes : Result History ℕ → List Noted → Type 0
+Closes (Ok book) entries =
+    (book ≡ record { entries = entries; limit = history_limit })
+    × AllByRecursion (λ n. n.entry.who ≡ session_caller) (drop 1 entries)
+Closes (Err out) entries = 1 ≤ out
+
+-- the share was made at a moment, the session was served behind that, and the office closed, all in one history
 pub record IsServed {C : Type 0} (ticks : C → ℕ → C → Type 0) (share : List ℕ) (wrote wrote' : List ℕ → Type 0)
-    (old new : SessionState C) (status : ℕ) : Type 0 where
+    (old new : LinkState C) (status : ℕ) : Type 0 where
   pub moment : ℕ
   pub began : C
   pub made : ticks old.clock moment began
-  pub first : List Noted
-  pub seen : List Noted
-  pub mine : List ℕ
+  pub entries : List Noted
+  pub history : IsProgramHistory share moment entries
   pub report : ConnReport
-  pub conversation : Conversation session_caller history_limit loopback input_budget share ticks wrote wrote'
-      (record old { seen = first; mine = []; clock = began }) (record new { seen = seen; mine = mine }) report
-  pub closed : IsClosed share moment first seen report status ⊎ IsNotClosed report status
+  pub conversation : Conversation ticks wrote wrote' (session_visit share entries) (record old { clock = began }) new
+      report
+  pub closed : Result History ℕ
+  pub closing : Closes closed entries
+  pub status_is : status ≡ status_after_close closed report
 
 -- what a session on a share does, with the share made before it
 abbrev pub IsSessionRun : {C : Type 0} → (C → ℕ → C → Type 0) → List ℕ → (List ℕ → Type 0) → (List ℕ → Type 0)
-    → SessionState C → SessionState C → ℕ → Type 0
+    → LinkState C → LinkState C → ℕ → Type 0
 IsSessionRun ticks share wrote wrote' old new status =
     IsNotServed wrote wrote' old new status ⊎ IsServed ticks share wrote wrote' old new status
 
@@ -176,7 +184,7 @@ IsSessionRun ticks share wrote wrote' old new status =
 abbrev pub IsRunOf : {K C : Type 0} → Command → (K → List ℕ → Type 0) → (C → ℕ → C → Type 0)
     → Outside K C → Outside K C → ℕ → Type 0
 IsRunOf (command.Session share) wrote ticks old new status =
-    IsSessionRun ticks share (wrote old.out) (wrote new.out) (session_state old [] []) (session_state new [] []) status
+    IsSessionRun ticks share (wrote old.out) (wrote new.out) (link_of old) (link_of new) status
 IsRunOf (command.Sign account) wrote ticks old new status =
     (new.clock ≡ old.clock) × Signs wrote account (streams_of old) (streams_of new) status
 IsRunOf (command.Check account now) wrote ticks old new status =

@@ -1,12 +1,12 @@
 -- How the program makes its share and takes a pass for its session.
-use Rattle.std.specs.Prelude.{ℕ, ◌+◌, ◌≡◌, List, [], ◌∷◌, length}
+use Rattle.std.specs.Prelude.{ℕ, ◌+◌, ◌≡◌, List, []}
 use Rattle.sx_stage_call.specs.declared.call.Call.TheVariants.{CreateShare}
 use Rattle.sx_stage_call.specs.declared.call.Entry.{Entry}
 use Rattle.sx_stage_call.specs.declared.call.Noted.{Noted}
 use Rattle.sx_turn.specs.Seats.{TableId}
-use Rattle.sx_book.specs.Passes.{PassView, GrowsByOthers, entry_behind, with_noted, after_entry, first_pass, new_pass}
+use Rattle.sx_book.specs.Passes.{PassView, GrowsByOthers, entry_behind, after_entry, first_pass, new_pass}
 use Rattle.sx_book.specs.Passes.{pass_after_look}
-use Rattle.sharebox.specs.Command.{history_limit, share_quota, session_caller}
+use Rattle.sharebox.specs.Command.{history_limit, share_quota, session_caller, creation, first_history}
 
 -- the program's Create Share behind what it found
 abbrev pub creation_behind : List Noted → List ℕ → ℕ → Entry
@@ -18,11 +18,8 @@ pub record HasMade (office : TableId) (share : List ℕ) (moment : ℕ) (main : 
   pub others : GrowsByOthers 0 [] found
   pub main_is : main ≡ after_entry found (creation_behind found share moment) (first_pass office history_limit)
 
--- the share was made, and the session has a pass, of number 1, which has seen this and more entries of others
+-- the share was made, and the session has a pass, of number 1; the Create Share is all that was seen
 pub record HasOpened (office : TableId) (share : List ℕ) (moment : ℕ) (main pass : PassView) : Type 0 where
-  pub found : List Noted
-  pub others : GrowsByOthers 0 [] found
-  pub since : GrowsByOthers 0 (with_noted found (creation_behind found share moment)) pass.seen
-  pub main_is : main ≡ pass_after_look pass.seen (session_caller + 1)
-      (after_entry found (creation_behind found share moment) (first_pass office history_limit))
-  pub pass_is : pass ≡ new_pass main session_caller pass.seen
+  pub main_is : main ≡ pass_after_look (first_history share moment) (session_caller + 1)
+      (after_entry [] (creation share moment) (first_pass office history_limit))
+  pub pass_is : pass ≡ new_pass main session_caller (first_history share moment)

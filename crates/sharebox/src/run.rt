@@ -1,10 +1,13 @@
 //! The program by its words, over any input, output and clock.
-ghost use Rattle.std.specs.Prelude.{◌≡◌, ◌+◌, ◌≤◌, ◌⊎◌, [], IfOk, OnOk, map};
+ghost use Rattle.std.specs.Prelude.{◌≡◌, ◌+◌, ◌≤◌, ◌⊎◌, [], IfOk, OnOk, length, map};
 ghost use Rattle.std.specs.String.{string_bytes};
+ghost use mathlib.Core.List.{IsPrefix};
 ghost use Rattle.sx_base.specs.Causes.{Rose};
 ghost use Rattle.sx_base.specs.Clock.{greatest_moment};
+ghost use Rattle.sx_stage_spec.specs.History.{IsHistory};
+ghost use Rattle.sx_book.specs.OneHistory.{history_of};
 ghost use Rattle.sx_book.specs.Passes.{first_pass};
-ghost use Rattle.sx_smb_door.specs.Conversation.{Conversation, SessionState, HasText, HasPrefix};
+ghost use Rattle.sx_smb_door.specs.Conversation.{Conversation, HasText, HasPrefix};
 ghost use Rattle.sharebox.specs.Opening.{HasMade, HasOpened};
 ghost use Rattle.sharebox.specs.Command.{Runs, IsSessionRun, status_by_counts, history_limit, input_budget, loopback};
 ghost use Rattle.sharebox.specs.Command.{refusal_line, status_of, status_after_close};
@@ -169,24 +172,24 @@ fn serve_streams<R: Wait, S: Source, K: Sink, C: Clock>(
     clock: &mut C,
 ) -> ConnReport
     requires { pass.old.office ≡ office.now }
-    ensures conversation { Conversation pass.old.number pass.old.limit loopback input_budget share.now C.ticks
-        (K.wrote out.old) (K.wrote out.new)
+    ensures conversation { Conversation C.ticks (K.wrote out.old) (K.wrote out.new)
         (record {
-          left = S.left input.old;
-          reads = S.read_count input.old;
-          writes = K.write_count out.old;
-          seen = pass.old.seen;
-          mine = pass.old.mine;
+          who = pass.old.number;
+          peer = loopback;
+          share = share.now;
+          budget = input_budget;
+          history = history_of pass.new;
+          from = length pass.old.seen;
+        })
+        (record {
+          sides = record { left = S.left input.old; reads = S.read_count input.old; writes = K.write_count out.old };
           clock = clock.old;
         })
         (record {
-          left = S.left input.new;
-          reads = S.read_count input.new;
-          writes = K.write_count out.new;
-          seen = pass.new.seen;
-          mine = pass.new.mine;
+          sides = record { left = S.left input.new; reads = S.read_count input.new; writes = K.write_count out.new };
           clock = clock.new;
         }) result }
+    ensures history { IsPrefix pass.old.seen pass.new.seen × IsHistory pass.new.limit pass.new.seen }
     ensures pass { pass.new ≡ record pass.old { seen = pass.new.seen; mine = pass.new.mine } }
 {
     let mut link = Both {
@@ -218,19 +221,11 @@ fn session<R: Wait, S: Source, K: Sink, C: Clock>(
 ) -> u8
     ensures { IsSessionRun C.ticks share.now (K.wrote out.old) (K.wrote out.new)
         (record {
-          left = S.left input.old;
-          reads = S.read_count input.old;
-          writes = K.write_count out.old;
-          seen = [];
-          mine = [];
+          sides = record { left = S.left input.old; reads = S.read_count input.old; writes = K.write_count out.old };
           clock = clock.old;
         })
         (record {
-          left = S.left input.new;
-          reads = S.read_count input.new;
-          writes = K.write_count out.new;
-          seen = [];
-          mine = [];
+          sides = record { left = S.left input.new; reads = S.read_count input.new; writes = K.write_count out.new };
           clock = clock.new;
         }) result }
 {
@@ -280,17 +275,13 @@ pub fn run<R: Wait, S: Source, K: Sink, C: Clock>(
 ) -> u8
     ensures { Runs K.wrote C.ticks (map string_bytes words.now)
         (record {
-          left = S.left input.old;
-          reads = S.read_count input.old;
+          sides = record { left = S.left input.old; reads = S.read_count input.old; writes = K.write_count out.old };
           out = out.old;
-          writes = K.write_count out.old;
           clock = clock.old;
         })
         (record {
-          left = S.left input.new;
-          reads = S.read_count input.new;
+          sides = record { left = S.left input.new; reads = S.read_count input.new; writes = K.write_count out.new };
           out = out.new;
-          writes = K.write_count out.new;
           clock = clock.new;
         }) result }
 {

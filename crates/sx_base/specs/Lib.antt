@@ -11,4 +11,5 @@ pub mod Moment
 pub mod MomentReader
 pub mod Output
 pub mod Printer
+pub mod Sides
 pub mod Sink

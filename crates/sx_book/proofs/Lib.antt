@@ -3,3 +3,5 @@ pub mod Lives
 pub mod Others
 pub mod Appended
 pub mod Held
+pub mod Growth
+pub mod Calls

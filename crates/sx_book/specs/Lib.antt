@@ -1,4 +1,5 @@
 pub mod Book
+pub mod OneHistory
 pub mod Opening
 pub mod Passes
 pub mod State

@@ -78,8 +78,12 @@ after_entry log e p = record p { seen = with_noted log e; mine = p.mine ++ (leng
 abbrev pub receipt_of : List Noted → Entry → Receipt
 receipt_of log e = record { place = length log + 1; at = e.at; reply = (step (replay log) e).1 }
 
+-- the places that the pass has of its own are exactly those of its number in what it has seen
+abbrev pub HasOwnPlaces : PassView → Type 0
+HasOwnPlaces p = p.mine ≡ places caller_of p.number p.seen
+
 -- the call was appended: the pass has seen what it had seen, then entries of others, then the own entry, behind a
--- legal history in which the limit left a place
+-- legal history in which the limit left a place; that is legal with it, and the pass has exactly its places
 pub record Appends (p : PassView) (session now fresh : ℕ) (call : Call) (r : Receipt) (q : PassView) : Type 0 where
   pub log : List Noted
   pub others : GrowsByOthers p.number p.seen log
@@ -88,6 +92,8 @@ pub record Appends (p : PassView) (session now fresh : ℕ) (call : Call) (r : R
   pub room : length log + wants (replay log) call ≤ p.limit
   pub pass : q ≡ after_entry log (entry_behind log p.number session now fresh call) p
   pub receipt : r ≡ receipt_of log (entry_behind log p.number session now fresh call)
+  pub legal_after : IsHistory p.limit q.seen
+  pub exact : HasOwnPlaces q
 
 -- the history was full for the call: its numbers are those of what the pass has seen now
 pub record IsFull (p : PassView) (call : Call) (entries sessions limit : ℕ) : Type 0 where
@@ -97,11 +103,12 @@ pub record IsFull (p : PassView) (call : Call) (entries sessions limit : ℕ) : 
   pub sessions_is : sessions ≡ length (replay p.seen).sessions
   pub limit_is : limit ≡ p.limit
 
--- the call was not appended: the pass has seen more entries of others, and where the history was full its numbers are
--- told
+-- the call was not appended: the pass has seen more entries of others of a legal history, and has exactly its places;
+-- where the history was full its numbers are told
 pub record AppendsNone (p : PassView) (call : Call) (s : Stop) (q : PassView) : Type 0 where
   pub others : SawMore p q
   pub legal : IsHistory p.limit q.seen
+  pub exact : HasOwnPlaces q
   pub cause : (entries sessions limit : ℕ) → s ≡ HistoryFull entries sessions limit
       → IsFull q call entries sessions limit
 

@@ -3,7 +3,7 @@ ghost use Rattle.std.specs.Prelude.{◌≡◌, ◌+◌, ◌≤◌, ◌<◌, true
 ghost use Rattle.sx_base.specs.Clock.{greatest_moment};
 ghost use Rattle.sx_stage_call.specs.declared.call.Call.TheVariants as Call;
 ghost use Rattle.sx_stage_call.specs.declared.reply.Stop.TheVariants as Stop;
-ghost use Rattle.sx_stage_spec.specs.History.{is_in_session, wants};
+ghost use Rattle.sx_stage_spec.specs.History.{IsHistory, is_in_session, wants};
 ghost use Rattle.sx_stage_spec.specs.Step.{replay};
 ghost use Rattle.sx_book.specs.Passes.{entry_behind, with_noted, receipt_of, fresh_for};
 
@@ -49,6 +49,7 @@ pub(crate) fn append_call(
         × (entries ≡ length book.old.entries)
         × (sessions ≡ length (replay book.old.entries).sessions) × (limit ≡ book.old.limit) }
     ensures err { OnErr result (book.new ≡ book.old) }
+    ensures legal { IsHistory book.new.limit book.new.entries }
     ensures ends { call ≡ Call.End → IsOk result }
 {
     let at = book.last_moment().max(now);
@@ -61,7 +62,9 @@ pub(crate) fn append_call(
         fresh,
         call,
     };
-    match book.step(entry) {
+    let answer = book.step(entry);
+    book.keeps();
+    match answer {
         Ok(reply) => Ok(Receipt { place, at, reply }),
         Err(stop) => Err(stop),
     }

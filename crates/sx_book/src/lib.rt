@@ -5,6 +5,7 @@
 mod append;
 mod apply;
 mod book;
+mod laws;
 mod office;
 mod opening;
 mod opens;
@@ -17,6 +18,7 @@ mod state;
 mod tail;
 
 pub use book::Book;
+pub use laws::{calls_come, histories_grow};
 pub use office::Office;
 pub use pass::{Pass, Receipt, Session};
 pub use report::{ConnEnd, ConnReport, Full};

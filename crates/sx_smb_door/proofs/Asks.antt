@@ -17,17 +17,16 @@ use Rattle.sx_stage_tree.specs.declared.node.Node.{Node}
 use Rattle.sx_stage_tree.specs.Files.{is_directory}
 use Rattle.sx_stage_spec.specs.Account.{Account, open_of, place_of, node_in}
 use Rattle.sx_stage_spec.specs.FirstRefusal.{first_refusal, first_open_refusal, first_of, share_check, parent_check, node_found, kind_found, file_wanted, handle_check}
-use Rattle.sx_stage_spec.specs.History.{wants}
 use Rattle.sx_stage_spec.specs.Step.{step, outcome, replay, reply_to, open_reply, open_reply_at}
-use Rattle.sx_book.specs.Passes.{PassView, HoldsSession, Appends, AppendsNone}
+use Rattle.sx_book.specs.OneHistory.{appended, history_full, no_memory}
+use Rattle.sx_book.specs.Passes.{PassView, HoldsSession, Appends, AppendsNone, entry_behind}
 use Rattle.sx_book.specs.declared.pass.Receipt.{Receipt}
-use Rattle.sx_smb_door.specs.Asking.{IsAsked, IsAppended, IsHistoryFull, IsOutOfMemory, tally_with_stop}
-use Rattle.sx_smb_door.specs.Conversation.{entry_of, full_of}
+use Rattle.sx_book.proofs.Calls.{appended_asks, full_asks, starved_asks}
+use Rattle.sx_smb_door.specs.Asking.{DoorState, IsAsked, tally_with_stop}
 use Rattle.sx_smb_door.specs.Answer.{has_line, has_word, is_printed}
 use Rattle.sx_smb_door.specs.Parse.{is_session_call}
 use Rattle.sx_smb_door.specs.declared.answer.LineAnswer.{LineAnswer}
 use Rattle.sx_smb_door.specs.declared.answer.LineAnswer.TheVariants.{Core, Stop as Stopped}
-use Rattle.sx_smb_door.specs.declared.tally.Tally.{Tally}
 
 false_true : false ≡ true → ⊥
 false_true e = cc
@@ -120,46 +119,43 @@ reply_line a e h = outcome_line a e.who e.session e.at e.call (first_refusal a e
 
 -- ---- what an office answers
 -- a call that took a place
-pub appended_call : {C : Type 0} (session : ℕ) (ticks : C → ℕ → C → Type 0) (call : Call) (old new : PassView) (clock clock' : C) (tally tally' : Tally) (moment : ℕ) (r : Receipt)
-    → is_session_call call ≡ true → HoldsSession new session → ticks clock moment clock' → Appends old session moment 0 call r new → tally' ≡ record tally { asked = tally.asked + 1 }
-    → IsAsked session ticks call old new clock clock' tally tally' (Core r.place r.reply)
-appended_call {C} session ticks call old new clock clock' tally tally' moment r h held told took counted =
-    let e : Entry = entry_of old.number session took.log moment call in
-    let answer : Core r.place r.reply ≡ Core (length took.log + 1) (step (replay took.log) e).1 = ap (λ (x : Receipt). Core x.place x.reply) took.receipt in
-    record {
-      moment = moment;
-      told = told;
-      held = held;
-      printed = ap is_printed answer ∙ reply_line (replay took.log) e h;
-      cases = inl (record { found = took.log; others = took.others; room = took.room; pass = took.pass; tallied = counted; answer_is = answer });
-    }
+pub appended_call : {C : Type 0} (ticks : C → ℕ → C → Type 0) (session : ℕ) (call : Call) (old new : DoorState C) (moment : ℕ) (r : Receipt)
+    → is_session_call call ≡ true → HoldsSession new.pass session → ticks old.clock moment new.clock → Appends old.pass session moment 0 call r new.pass → new.tally ≡ record old.tally { asked = old.tally.asked + 1 }
+    → IsAsked ticks session call old new (Core r.place r.reply)
+appended_call {C} ticks session call old new moment r h held told took counted = record {
+  moment = moment;
+  came = appended r.place r.reply;
+  calls = appended_asks old.pass new.pass session moment 0 call r took;
+  told = told;
+  tallied = counted;
+  answer_is = refl;
+  printed = ap (λ (x : Receipt). has_line x.reply) took.receipt ∙ reply_line (replay took.log) (entry_behind took.log old.pass.number session moment 0 call) h;
+  held = held;
+}
 
 -- a call that took none
-pub stopped_call : {C : Type 0} (session : ℕ) (ticks : C → ℕ → C → Type 0) (call : Call) (old new : PassView) (clock clock' : C) (tally tally' : Tally) (moment : ℕ) (s : Stop)
-    → HoldsSession new session → ticks clock moment clock' → AppendsNone old call s new → tally' ≡ tally_with_stop (record tally { asked = tally.asked + 1 }) s
-    → IsAsked session ticks call old new clock clock' tally tally' (Stopped s)
-stopped_call {C} session ticks call old new clock clock' tally tally' moment NoMemory held told took counted = record {
+pub stopped_call : {C : Type 0} (ticks : C → ℕ → C → Type 0) (session : ℕ) (call : Call) (old new : DoorState C) (moment : ℕ) (s : Stop)
+    → HoldsSession new.pass session → ticks old.clock moment new.clock → AppendsNone old.pass call s new.pass → new.tally ≡ tally_with_stop (record old.tally { asked = old.tally.asked + 1 }) s
+    → IsAsked ticks session call old new (Stopped s)
+stopped_call {C} ticks session call old new moment NoMemory held told took counted = record {
   moment = moment;
+  came = no_memory;
+  calls = starved_asks old.pass new.pass session moment 0 call took;
   told = told;
-  held = held;
+  tallied = counted;
+  answer_is = refl;
   printed = refl;
-  cases = inr (inr (record { found = new.seen; others = took.others.0; pass = took.others.1; tallied = counted; answer_is = refl }));
+  held = held;
 }
-stopped_call {C} session ticks call old new clock clock' tally tally' moment (HistoryFull entries sessions limit) held told took counted =
-    let full = took.cause entries sessions limit refl in
-    let same : limit ≡ old.limit = full.limit_is ∙ ap (λ (p : PassView). p.limit) took.others.1 in
-    let answer : Stopped (HistoryFull entries sessions limit) ≡ Stopped (HistoryFull (length new.seen) (length (replay new.seen).sessions) old.limit) = rw (full.entries_is, full.sessions_is, same) refl in
+stopped_call {C} ticks session call old new moment (HistoryFull entries sessions limit) held told took counted =
+    let same : limit ≡ old.pass.limit = (took.cause entries sessions limit refl).limit_is ∙ ap (λ (p : PassView). p.limit) took.others.1 in
     record {
       moment = moment;
+      came = history_full entries sessions;
+      calls = full_asks old.pass new.pass session moment 0 call entries sessions limit took;
       told = told;
-      held = held;
+      tallied = counted ∙ ap (λ (n : ℕ). tally_with_stop (record old.tally { asked = old.tally.asked + 1 }) (HistoryFull entries sessions n)) same;
+      answer_is = ap (λ (n : ℕ). Stopped (HistoryFull entries sessions n)) same;
       printed = refl;
-      cases = inr (inl (record {
-        found = new.seen;
-        others = took.others.0;
-        pass = took.others.1;
-        full = subst (λ (p : PassView). p.limit < length new.seen + wants (replay new.seen) call) took.others.1 full.full;
-        tallied = counted ∙ rw (full.entries_is, full.sessions_is, same) refl;
-        answer_is = answer;
-      }));
+      held = held;
     }

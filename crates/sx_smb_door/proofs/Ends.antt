@@ -1,81 +1,88 @@
 -- How a session's lines go on and end.
-use Rattle.std.proofs.Common.{ℕ, ◌+◌, ◌≤◌, ◌≡◌, List, [], ◌∷◌, ◌++◌, length, Option, refl, sym, ap, ◌∙◌, subst}
+use Rattle.std.proofs.Common.{ℕ, ◌+◌, ◌≤◌, ◌≡◌, List, [], ◌∷◌, ◌++◌, length, Option, refl, sym, ap, ◌∙◌, subst, arith}
 use Rattle.std.specs.Io.KnownBytes.{Consumes, Keeps, prepend_known}
-use Rattle.sx_book.specs.Passes.{PassView}
+use Rattle.sx_base.specs.Sides.{Sides}
 use Rattle.sx_book.specs.declared.report.ConnEnd.{ConnEnd}
-use Rattle.sx_smb_door.specs.Asking.{no_tally, caller_in, IsAnswered}
-use Rattle.sx_smb_door.specs.Conversation.{AnsweredLine, answer_of, answers_to, line_bytes, HasText, HasPrefix, HasBegun, BreaksAtAnswer, HasWritten, IsEnd, KeepsCounts, ServedLines}
+use Rattle.sx_smb_door.specs.Asking.{DoorState, IsAnswered, IsServed}
+use Rattle.sx_smb_door.specs.Conversation.{AnsweredLine, Caller, Talk, answer_of, answers_to, line_bytes, no_tally, HasText, HasPrefix, HasBegun, BreaksAtAnswer, HasWritten, IsEnd, KeepsCounts, ServesLines}
 use Rattle.sx_smb_door.specs.Limits.{line_limit}
+use Rattle.sx_smb_door.specs.LineReaderView.{LineReaderView}
 use Rattle.sx_smb_door.specs.Lines.{with_line_feed, IsOneLine}
 use Rattle.sx_smb_door.specs.Answer.{answer_text}
 use Rattle.sx_smb_door.specs.declared.answer.LineAnswer.{LineAnswer}
-use Rattle.sx_smb_door.specs.declared.tally.Tally.{Tally}
-use Rattle.sx_smb_door.proofs.Turns.{Going, going_none, going_more, after_turns, flat_more, text_none, text_more, text_begun, text_kept}
+use Rattle.sx_smb_door.proofs.Turns.{Going, going_none, going_more, flat_more, text_none, text_more, text_begun, text_kept}
 
 -- lines that were answered, with what was written for them
-abbrev pub Run : {C : Type 0} → ℕ → List ℕ → (C → ℕ → C → Type 0) → Option (List ℕ) → Option (List ℕ) → PassView → PassView → C → C → Tally → ℕ → (List ℕ → Type 0) → (List ℕ → Type 0) → Type 0
-Run session share ticks s s' p p' c c' tally taken wrote wrote' = (going : Going session share ticks s s' p p' c c' tally taken) × HasText wrote wrote' (answers_to (caller_in p session share) going.turns)
+abbrev pub Run : {C : Type 0} → (C → ℕ → C → Type 0) → Caller → Option (List ℕ) → Option (List ℕ) → DoorState C → DoorState C → ℕ → (List ℕ → Type 0) → (List ℕ → Type 0) → Type 0
+Run ticks w s s' old new taken wrote wrote' = (going : Going ticks w s s' old new taken) × HasText wrote wrote' (answers_to w going.turns)
 
 -- no line yet
-pub run_none : {C : Type 0} (session : ℕ) (share : List ℕ) (ticks : C → ℕ → C → Type 0) (s : Option (List ℕ)) (p : PassView) (c : C) (tally : Tally) (taken : ℕ) (wrote : List ℕ → Type 0) → tally ≡ no_tally → taken ≡ 0 → Run session share ticks s s p p c c tally taken wrote wrote
+pub run_none : {C : Type 0} (ticks : C → ℕ → C → Type 0) (w : Caller) (s : Option (List ℕ)) (a : DoorState C) (taken : ℕ) (wrote : List ℕ → Type 0) → a.tally ≡ no_tally → taken ≡ 0 → Run ticks w s s a a taken wrote wrote
 unfolding going_none
-run_none {C} session share ticks s p c tally taken wrote none zero =
-    let P : Tally → Type 0 = λ t. Run session share ticks s s p p c c t taken wrote wrote in
-    let Q : ℕ → Type 0 = λ n. Run session share ticks s s p p c c no_tally n wrote wrote in
-    subst P (sym none) (subst Q (sym zero) (going_none session share ticks s p c, text_none wrote))
+run_none {C} ticks w s a taken wrote none zero = (going_none ticks w s a taken none zero, text_none wrote)
 
--- one line more, whose answer was written
-pub run_more : {C : Type 0} (session : ℕ) (share : List ℕ) (ticks : C → ℕ → C → Type 0) (s0 s1 s2 : Option (List ℕ)) (p0 p1 p2 : PassView) (c0 c1 c2 : C) (t1 t2 : Tally) (k1 k2 : ℕ) (at_first at_line at_answer at_last : List ℕ → Type 0) (line : List ℕ) (answer : LineAnswer)
-    → Run session share ticks s0 s1 p0 p1 c0 c1 t1 k1 at_first at_line → IsOneLine line → length line ≤ line_limit → Consumes s1 s2 (with_line_feed line) → k2 ≡ k1 + length line + 1
-    → IsAnswered session share ticks line p1 p2 c1 c2 t1 t2 answer → ((m : List ℕ) → at_line m → at_answer m) → HasText at_answer at_last (answer_text answer) → Run session share ticks s0 s2 p0 p2 c0 c2 t2 k2 at_first at_last
-unfolding going_more
-run_more {C} session share ticks s0 s1 s2 p0 p1 p2 c0 c1 c2 t1 t2 k1 k2 at_first at_line at_answer at_last line answer run one short taken count answered keep text =
-    let g = run.0 in
-    let P : PassView → Type 0 = λ p. IsAnswered session share ticks line p p2 c1 c2 t1 t2 answer in
-    let a = subst P g.left answered in
-    let t : AnsweredLine = record { line = line; outcome = a.outcome } in
-    let said : List ℕ = answers_to (caller_in p0 session share) g.turns in
-    let all = text_more at_first at_answer at_last said (answer_text answer) (text_kept at_first at_line at_answer said run.1 keep) text in
-    let now : said ++ answer_text answer ≡ answers_to (caller_in p0 session share) (g.turns ++ t ∷ []) =
-    ap (λ (x : LineAnswer). said ++ answer_text x) a.answer_is ∙ sym (flat_more (λ (u : AnsweredLine). answer_text (answer_of (caller_in p0 session share) u.outcome)) g.turns t) in
-    (going_more session share ticks s0 s1 s2 p0 p1 p2 c0 c1 c2 t1 t2 k1 k2 line answer g one short taken count a, subst (HasText at_first at_last) now all)
+module _ {C : Type 0} (ticks : C → ℕ → C → Type 0) (w : Caller) (s0 s1 s2 : Option (List ℕ)) (a b c : DoorState C) (k1 k2 : ℕ) (at_first at_line at_answer at_last : List ℕ → Type 0) (line : List ℕ) (answer : LineAnswer) where
+  -- one line more, whose answer was written
+  pub run_more : Run ticks w s0 s1 a b k1 at_first at_line → IsOneLine line → length line ≤ line_limit → Consumes s1 s2 (with_line_feed line) → k2 ≡ k1 + length line + 1
+      → IsAnswered ticks w line b c answer → ((m : List ℕ) → at_line m → at_answer m) → HasText at_answer at_last (answer_text answer) → Run ticks w s0 s2 a c k2 at_first at_last
+  unfolding going_more
+  run_more run one short taken count last keep text =
+      let g = run.0 in
+      let t : AnsweredLine = record { line = line; outcome = last.outcome } in
+      let said : List ℕ = answers_to w g.turns in
+      let all = text_more at_first at_answer at_last said (answer_text answer) (text_kept at_first at_line at_answer said run.1 keep) text in
+      let now : said ++ answer_text answer ≡ answers_to w (g.turns ++ t ∷ []) =
+      ap (λ (x : LineAnswer). said ++ answer_text x) last.answer_is ∙ sym (flat_more (λ (u : AnsweredLine). answer_text (answer_of w u.outcome)) g.turns t) in
+      (going_more ticks w s0 s1 s2 a b c k1 k2 line answer g one short taken count last, subst (HasText at_first at_last) now all)
 
--- one line more, of whose answer a prefix was written
-pub run_breaks : {C : Type 0} (session : ℕ) (share : List ℕ) (ticks : C → ℕ → C → Type 0) (s0 s1 s2 : Option (List ℕ)) (p0 p1 p2 : PassView) (c0 c1 c2 : C) (t1 t2 : Tally) (k1 k2 : ℕ) (at_first at_line at_answer at_last : List ℕ → Type 0) (line : List ℕ) (answer : LineAnswer)
-    → Run session share ticks s0 s1 p0 p1 c0 c1 t1 k1 at_first at_line → IsOneLine line → length line ≤ line_limit → Consumes s1 s2 (with_line_feed line) → k2 ≡ k1 + length line + 1
-    → IsAnswered session share ticks line p1 p2 c1 c2 t1 t2 answer → ((m : List ℕ) → at_line m → at_answer m) → HasPrefix at_answer at_last (answer_text answer)
-    → (going : Going session share ticks s0 s2 p0 p2 c0 c2 t2 k2) × BreaksAtAnswer (caller_in p0 session share) going.turns at_first at_last
-unfolding going_more
-run_breaks {C} session share ticks s0 s1 s2 p0 p1 p2 c0 c1 c2 t1 t2 k1 k2 at_first at_line at_answer at_last line answer run one short taken count answered keep text =
-    let g = run.0 in
-    let P : PassView → Type 0 = λ p. IsAnswered session share ticks line p p2 c1 c2 t1 t2 answer in
-    let a = subst P g.left answered in
-    let t : AnsweredLine = record { line = line; outcome = a.outcome } in
-    let said : List ℕ = answers_to (caller_in p0 session share) g.turns in
-    let begun = text_begun at_first at_answer at_last said (answer_text answer) (text_kept at_first at_line at_answer said run.1 keep) text in
-    let last : answer_text answer ≡ answer_text (answer_of (caller_in p0 session share) t.outcome) = ap answer_text a.answer_is in
-    (going_more session share ticks s0 s1 s2 p0 p1 p2 c0 c1 c2 t1 t2 k1 k2 line answer g one short taken count a, record { answered = g.turns; last = t; split = refl; begun = subst (HasBegun at_first at_last said) last begun })
+  -- one line more, of whose answer a prefix was written
+  pub run_breaks : Run ticks w s0 s1 a b k1 at_first at_line → IsOneLine line → length line ≤ line_limit → Consumes s1 s2 (with_line_feed line) → k2 ≡ k1 + length line + 1
+      → IsAnswered ticks w line b c answer → ((m : List ℕ) → at_line m → at_answer m) → HasPrefix at_answer at_last (answer_text answer)
+      → (going : Going ticks w s0 s2 a c k2) × BreaksAtAnswer w going.turns at_first at_last
+  unfolding going_more
+  run_breaks run one short taken count last keep text =
+      let g = run.0 in
+      let t : AnsweredLine = record { line = line; outcome = last.outcome } in
+      let said : List ℕ = answers_to w g.turns in
+      let begun = text_begun at_first at_answer at_last said (answer_text answer) (text_kept at_first at_line at_answer said run.1 keep) text in
+      (going_more ticks w s0 s1 s2 a b c k1 k2 line answer g one short taken count last, record { answered = g.turns; last = t; split = refl; begun = subst (HasBegun at_first at_last said) (ap answer_text last.answer_is) begun })
 
 -- the lines, and how they ended
-pub served_by : {C : Type 0} (session : ℕ) (share : List ℕ) (budget : ℕ) (ticks : C → ℕ → C → Type 0) (wrote wrote' : List ℕ → Type 0) (left left' : Option (List ℕ)) (reads reads' writes writes' : ℕ) (p p' : PassView) (c c' : C) (tally : Tally) (end : ConnEnd) (s0 s1 : Option (List ℕ)) (held : List ℕ) (k k2 : ℕ)
-    → (going : Going session share ticks s0 s1 p p' c c' tally k) → s0 ≡ left → k2 ≡ k → k2 ≤ budget → Keeps s1 (prepend_known held left')
-    → HasWritten end (caller_in p session share) going.turns s1 wrote wrote' → IsEnd end s1 held k2 budget reads reads' writes writes' → KeepsCounts end reads reads' writes writes'
-    → ServedLines (caller_in p session share) budget ticks wrote wrote' (record { left = left; reads = reads; writes = writes; seen = p.seen; mine = p.mine; clock = c })
-    (record { left = left'; reads = reads'; writes = writes'; seen = p'.seen; mine = p'.mine; clock = c' }) tally end k2
-served_by {C} session share budget ticks wrote wrote' left left' reads reads' writes writes' p p' c c' tally end s0 s1 held k k2 going same count within unread written ended counts = record {
-  turns = going.turns;
-  may = going.may;
-  rest = s1;
-  bytes = subst (λ (s : Option (List ℕ)). Consumes s s1 (line_bytes going.turns)) same going.bytes;
-  held = held;
-  unread = unread;
-  counts = counts;
-  taken_is = count ∙ going.taken_is;
-  within = within;
-  seen = ap (λ (x : PassView). x.seen) going.left;
-  mine = ap (λ (x : PassView). x.mine) going.left;
-  tallied = going.tallied;
-  told = going.told;
-  written = written;
-  ended = ended;
-}
+pub served_by : {C : Type 0} (ticks : C → ℕ → C → Type 0) (w : Caller) (budget : ℕ) (wrote wrote' : List ℕ → Type 0) (old new : Sides) (a b : DoorState C) (end : ConnEnd) (s0 s1 : Option (List ℕ)) (held : List ℕ) (k k2 : ℕ)
+    → (going : Going ticks w s0 s1 a b k) → s0 ≡ old.left → k2 ≡ k → k2 + length held ≤ budget → Keeps s1 (prepend_known held new.left)
+    → HasWritten end w (record { turns = going.turns; given = k2; end = end; rest = s1; held = held }) wrote wrote'
+    → IsEnd end budget (record { turns = going.turns; given = k2; end = end; rest = s1; held = held }) old new → KeepsCounts end old new
+    → (talk : Talk) × (talk.end ≡ end) × IsServed ticks w talk a b k2 × ServesLines w budget talk wrote wrote' old new
+served_by {C} ticks w budget wrote wrote' old new a b end s0 s1 held k k2 going same count within unread written ended counts = (
+  record { turns = going.turns; given = k2; end = end; rest = s1; held = held },
+  refl,
+  record { calls = going.calls; told = going.told; tallied = going.tallied; taken_is = refl },
+  record {
+    lines = going.lines;
+    bytes = record {
+      lines = subst (λ (s : Option (List ℕ)). Consumes s s1 (line_bytes going.turns)) same going.bytes;
+      given_is = count ∙ going.taken_is;
+      unread = unread;
+      within = within;
+    };
+    answers = written;
+    end = ended;
+    counts = counts;
+  },
+)
+
+-- what a reader keeps that gave no line
+abbrev pub KeepsTaken : LineReaderView → LineReaderView → Type 0
+KeepsTaken r r' = (r'.taken ≡ r.taken) × (r'.budget ≡ r.budget)
+
+-- the lines, and how they ended where nothing more was written
+pub stopped_by : {C : Type 0} (ticks : C → ℕ → C → Type 0) (w : Caller) (budget : ℕ) (at_first at_line at_last : List ℕ → Type 0) (old new : Sides) (a b : DoorState C) (end : ConnEnd) (s0 s1 : Option (List ℕ)) (r r' : LineReaderView)
+    → (run : Run ticks w s0 s1 a b r.taken at_first at_line) → s0 ≡ old.left → KeepsTaken r r' → r.budget ≡ budget → r'.taken + length r'.held ≤ r'.budget → Keeps s1 (prepend_known r'.held new.left) → ((m : List ℕ) → at_line m → at_last m)
+    → (HasText at_first at_last (answers_to w run.0.turns) → HasWritten end w (record { turns = run.0.turns; given = r'.taken; end = end; rest = s1; held = r'.held }) at_first at_last)
+    → IsEnd end r'.budget (record { turns = run.0.turns; given = r'.taken; end = end; rest = s1; held = r'.held }) old new → KeepsCounts end old new
+    → (talk : Talk) × (talk.end ≡ end) × IsServed ticks w talk a b r'.taken × ServesLines w budget talk at_first at_last old new
+stopped_by {C} ticks w budget at_first at_line at_last old new a b end s0 s1 r r' run same taken budget_is within unread keep plain ended counts =
+    let limit : r'.budget ≡ budget = taken.1 ∙ budget_is in
+    served_by ticks w budget at_first at_last old new a b end s0 s1 r'.held r.taken r'.taken run.0 same taken.0 (omega (arith, within, limit)) unread
+    (plain (text_kept at_first at_line at_last (answers_to w run.0.turns) run.1 keep))
+    (subst (λ (n : ℕ). IsEnd end n (record { turns = run.0.turns; given = r'.taken; end = end; rest = s1; held = r'.held }) old new) limit ended) counts

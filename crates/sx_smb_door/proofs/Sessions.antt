@@ -1,63 +1,91 @@
 -- A session from its start to its end.
-use Rattle.std.proofs.Common.{ℕ, ◌+◌, ◌≡◌, List, [], ◌∷◌, ◌++◌, length, Option, refl, sym, ap, ◌∙◌, subst, inr}
+use Rattle.std.proofs.Common.{ℕ, ◌+◌, ◌≡◌, List, [], ◌∷◌, ◌++◌, length, Option, refl, sym, ap, ◌∙◌, subst, inl, inr}
+use mathlib.Core.List.{IsPrefix}
+use Rattle.sx_base.specs.Clock.{StepsThrough}
+use Rattle.sx_base.specs.Sides.{Sides}
+use Rattle.sx_base.proofs.Steps.{steps_append}
 use Rattle.sx_stage_call.specs.declared.call.Call.TheVariants.{Start, End}
+use Rattle.sx_stage_call.specs.declared.call.Noted.{Noted}
 use Rattle.sx_stage_call.specs.declared.reply.Reply.{Reply}
 use Rattle.sx_stage_call.specs.declared.reply.Reply.TheVariants.{Smb}
 use Rattle.sx_stage_call.specs.declared.reply.SmbReply.TheVariants.{Started}
-use Rattle.sx_book.specs.Passes.{PassView, GrowsByOthers, Appends, after_entry, entry_behind, with_noted, next_number}
+use Rattle.sx_stage_call.specs.declared.reply.Stop.{Stop}
+use Rattle.sx_stage_call.specs.declared.reply.Stop.TheVariants as stop
+use Rattle.sx_book.specs.OneHistory.{Came, appended, history_full, no_memory, Outcome, Asks, moments_of, history_of}
+use Rattle.sx_book.specs.Passes.{PassView, GrowsByOthers, Appends, AppendsNone}
 use Rattle.sx_book.specs.declared.pass.Receipt.{Receipt}
 use Rattle.sx_book.specs.declared.report.ConnEnd.{ConnEnd}
 use Rattle.sx_book.specs.declared.report.ConnReport.{ConnReport}
-use Rattle.sx_smb_door.specs.Asking.{caller_in}
-use Rattle.sx_smb_door.specs.Conversation.{Caller, SessionState, ServedLines, Conversation, report_of}
+use Rattle.sx_book.proofs.Calls.{asks_join, appended_asks, full_asks, starved_asks}
+use Rattle.sx_smb_door.specs.Asking.{DoorState, caller_in, IsServed}
+use Rattle.sx_smb_door.specs.Conversation.{Caller, Visit, LinkState, Bounds, Talk, ServesLines, IsUnstarted, Conversation, HasText, call_with, calls_of, caller_of_visit, session_calls, tally_after_all, no_tally, report_of, unstarted_report, end_of}
 use Rattle.sx_smb_door.specs.declared.tally.Tally.{Tally}
+use Rattle.sx_smb_door.proofs.Turns.{text_none, moments_join}
 
-same_number : (a b : ℕ) → Smb (Started a) ≡ Smb (Started b) → a ≡ b
-same_number a b e = cc e
+-- entries of others behind what was seen
+pub others_grow : (who : ℕ) (seen found : List Noted) → GrowsByOthers who seen found → IsPrefix seen found
+others_grow who seen found h = (h.0, sym h.1)
 
--- the number of a session that was started is the next one
-started_number : (p q : PassView) (now peer session : ℕ) (r : Receipt) → (took : Appends p 0 now 0 (Start peer) r q) → r.reply ≡ Smb (Started session) → session ≡ next_number took.log
-started_number p q now peer session r took said =
-    let reply : r.reply ≡ Smb (Started (next_number took.log)) = ap (λ (x : Receipt). x.reply) took.receipt in
-    same_number session (next_number took.log) (sym said ∙ reply)
+-- a session through a pass, before and after
+abbrev pub visit_of : PassView → PassView → ℕ → List ℕ → ℕ → Visit
+visit_of p q peer share budget = record { who = p.number; peer = peer; share = share; budget = budget; history = history_of q; from = length p.seen }
+
+-- a start that came to no place
+pub unstarted_by : {C : Type 0} (ticks : C → ℕ → C → Type 0) (wrote : List ℕ → Type 0) (peer budget : ℕ) (share : List ℕ) (p q : PassView) (moment : ℕ) (c c' : C) (sides : Sides) (s : Stop) (report : ConnReport)
+    → ticks c moment c' → AppendsNone p (Start peer) s q → report ≡ unstarted_report (end_of s)
+    → Conversation ticks wrote wrote (visit_of p q peer share budget) (record { sides = sides; clock = c }) (record { sides = sides; clock = c' }) report
+unstarted_by {C} ticks wrote peer budget share p q moment c c' sides stop.NoMemory report start none is = inl (record {
+  moment = moment;
+  came = no_memory;
+  history = (starved_asks p q 0 moment 0 (Start peer) none).calls;
+  moments = start;
+  unread = refl;
+  answers = text_none wrote;
+  report_is = is;
+})
+unstarted_by {C} ticks wrote peer budget share p q moment c c' sides (stop.HistoryFull entries sessions limit) report start none is = inl (record {
+  moment = moment;
+  came = history_full entries sessions;
+  history = (full_asks p q 0 moment 0 (Start peer) entries sessions limit none).calls;
+  moments = start;
+  unread = refl;
+  answers = text_none wrote;
+  report_is = is ∙ ap (λ (n : ℕ). unstarted_report (end_of (stop.HistoryFull entries sessions n))) (none.cause entries sessions limit refl).limit_is;
+})
 
 -- a start, lines, and an end are a conversation
-pub session_by : {C : Type 0} (ticks : C → ℕ → C → Type 0) (wrote wrote' : List ℕ → Type 0) (peer budget : ℕ) (share : List ℕ) (p0 p1 p2 p3 : PassView) (first last : ℕ) (c0 c1 c2 c3 : C)
-    (left left' : Option (List ℕ)) (reads reads' writes writes' : ℕ) (r1 r2 : Receipt) (session : ℕ) (tally : Tally) (end : ConnEnd) (taken : ℕ) (report : ConnReport)
-    → ticks c0 first c1 → Appends p0 0 first 0 (Start peer) r1 p1 → r1.reply ≡ Smb (Started session)
-    → ServedLines (caller_in p1 session share) budget ticks wrote wrote' (record { left = left; reads = reads; writes = writes; seen = p1.seen; mine = p1.mine; clock = c1 })
-    (record { left = left'; reads = reads'; writes = writes'; seen = p2.seen; mine = p2.mine; clock = c2 }) tally end taken
-    → p2 ≡ record p1 { seen = p2.seen; mine = p2.mine } → ticks c2 last c3 → Appends p2 session last 0 End r2 p3 → report ≡ report_of end taken budget tally
-    → Conversation p0.number p0.limit peer budget share ticks wrote wrote' (record { left = left; reads = reads; writes = writes; seen = p0.seen; mine = p0.mine; clock = c0 })
-    (record { left = left'; reads = reads'; writes = writes'; seen = p3.seen; mine = p3.mine; clock = c3 }) report
-session_by {C} ticks wrote wrote' peer budget share p0 p1 p2 p3 first last c0 c1 c2 c3 left left' reads reads' writes writes' r1 r2 session tally end taken report start took said served kept stop ended reported =
-    let number : session ≡ next_number took.log = started_number p0 p1 first peer session r1 took said in
-    let who : p2.number ≡ p0.number = ap (λ (p : PassView). p.number) kept ∙ ap (λ (p : PassView). p.number) took.pass in
-    let w : Caller = record { who = p0.number; session = next_number took.log; share = share; limit = p0.limit } in
-    let speaks : caller_in p1 session share ≡ w =
-    ap (λ (p : PassView). caller_in p session share) took.pass ∙ ap (λ (s : ℕ). record { who = p0.number; session = s; share = share; limit = p0.limit }) number in
-    let opened : SessionState C = record { left = left; reads = reads; writes = writes; seen = p1.seen; mine = p1.mine; clock = c1 } in
-    let answered : SessionState C = record { left = left'; reads = reads'; writes = writes'; seen = p2.seen; mine = p2.mine; clock = c2 } in
-    let after : ℕ → ℕ → SessionState C = λ n s. record { left = left'; reads = reads'; writes = writes'; seen = with_noted ended.log (entry_behind ended.log n s last 0 End); mine = p2.mine ++ (length ended.log + 1) ∷ []; clock = c3 } in
+pub session_by : {C : Type 0} (ticks : C → ℕ → C → Type 0) (wrote wrote' : List ℕ → Type 0) (peer budget : ℕ) (share : List ℕ) (p0 p3 : PassView) (s1 s2 : DoorState C) (c0 c3 : C) (first last : ℕ) (sides sides' : Sides)
+    (r1 r2 : Receipt) (session : ℕ) (talk : Talk) (taken : ℕ) (report : ConnReport)
+    → ticks c0 first s1.clock → Appends p0 0 first 0 (Start peer) r1 s1.pass → r1.reply ≡ Smb (Started session)
+    → IsServed ticks (caller_in s1.pass session share) talk s1 s2 taken → ServesLines (caller_in s1.pass session share) budget talk wrote wrote' sides sides'
+    → ticks s2.clock last c3 → Appends s2.pass session last 0 End r2 p3 → report ≡ report_of talk.end taken budget s2.tally
+    → Conversation ticks wrote wrote' (visit_of p0 p3 peer share budget) (record { sides = sides; clock = c0 }) (record { sides = sides'; clock = c3 }) report
+session_by {C} ticks wrote wrote' peer budget share p0 p3 s1 s2 c0 c3 first last sides sides' r1 r2 session talk taken report start took said served lines stop ended reported =
+    let v : Visit = visit_of p0 p3 peer share budget in
+    let w : Caller = caller_of_visit v session in
+    let b : Bounds = record { session = session; started = first; first = r1.place; finished = last; last = r2.place; reply = r2.reply } in
+    let opening : List Outcome = call_with p0.number 0 (Start peer) first (appended r1.place (Smb (Started session))) ∷ [] in
+    let closing : List Outcome = call_with p0.number session End last (appended r2.place r2.reply) ∷ [] in
+    let begun : Asks p0 s1.pass opening = subst (λ (r : Reply). Asks p0 s1.pass (call_with p0.number 0 (Start peer) first (appended r1.place r) ∷ [])) said (appended_asks p0 s1.pass 0 first 0 (Start peer) r1 took) in
+    let over : Asks s2.pass p3 (call_with s2.pass.number session End last (appended r2.place r2.reply) ∷ []) = appended_asks s2.pass p3 session last 0 End r2 ended in
+    let who1 : s1.pass.number ≡ p0.number = ap (λ (p : PassView). p.number) begun.pass in
+    let who2 : s2.pass.number ≡ p0.number = ap (λ (p : PassView). p.number) served.calls.pass ∙ who1 in
+    let limit : s1.pass.limit ≡ p3.limit = sym (ap (λ (p : PassView). p.limit) over.pass ∙ ap (λ (p : PassView). p.limit) served.calls.pass) in
+    let speaks : caller_in s1.pass session share ≡ w = ap (λ (x : ℕ × ℕ). record { who = x.0; session = session; share = share; limit = x.1 }) (λ j. (who1 j, limit j)) in
+    let between : Asks s1.pass s2.pass (calls_of w talk.turns) = subst (λ (x : Caller). Asks s1.pass s2.pass (calls_of x talk.turns)) speaks served.calls in
+    let after : Asks s2.pass p3 closing = subst (λ (n : ℕ). Asks s2.pass p3 (call_with n session End last (appended r2.place r2.reply) ∷ [])) who2 over in
+    let rest : Asks s1.pass p3 (calls_of w talk.turns ++ closing) = asks_join s1.pass s2.pass p3 (calls_of w talk.turns) closing between after in
+    let all : Asks p0 p3 (opening ++ (calls_of w talk.turns ++ closing)) = asks_join p0 s1.pass p3 opening (calls_of w talk.turns ++ closing) begun rest in
+    let told : StepsThrough ticks s1.clock (moments_of (calls_of w talk.turns)) s2.clock = subst (λ (x : Caller). StepsThrough ticks s1.clock (moments_of (calls_of x talk.turns)) s2.clock) speaks served.told in
+    let on : StepsThrough ticks s1.clock (moments_of (calls_of w talk.turns ++ closing)) c3 = subst (λ (ms : List ℕ). StepsThrough ticks s1.clock ms c3) (sym (moments_join (calls_of w talk.turns) closing))
+    (steps_append ticks s1.clock s2.clock c3 (moments_of (calls_of w talk.turns)) (last ∷ []) told (c3, stop, refl)) in
     inr (record {
-      started = first;
-      began = c1;
-      start = start;
-      found = took.log;
-      others = took.others;
-      room = took.room;
-      opened = opened;
-      opened_is = ap (λ (p : PassView). record { left = left; reads = reads; writes = writes; seen = p.seen; mine = p.mine; clock = c1 }) took.pass;
-      answered = answered;
-      tally = tally;
-      end = end;
-      taken = taken;
-      lines = subst (λ (x : Caller). ServedLines x budget ticks wrote wrote' opened answered tally end taken) speaks served;
-      finished = last;
-      stop = stop;
-      last = ended.log;
-      since = subst (λ (n : ℕ). GrowsByOthers n p2.seen ended.log) who ended.others;
-      closed = ap (λ (p : PassView). record { left = left'; reads = reads'; writes = writes'; seen = p.seen; mine = p.mine; clock = c3 }) ended.pass
-          ∙ (ap (λ (n : ℕ). after n session) who ∙ ap (λ (s : ℕ). after p0.number s) number);
-      report_is = reported;
+      bounds = b;
+      talk = talk;
+      history = all.calls;
+      moments = (s1.clock, start, on);
+      served = subst (λ (x : Caller). ServesLines x budget talk wrote wrote' sides sides') speaks lines;
+      report_is = reported ∙ (ap (λ (n : ℕ). report_of talk.end n budget s2.tally) served.taken_is
+          ∙ (ap (λ (t : Tally). report_of talk.end talk.given budget t) served.tallied
+          ∙ ap (λ (x : Caller). report_of talk.end talk.given budget (tally_after_all x no_tally talk.turns)) speaks));
     })

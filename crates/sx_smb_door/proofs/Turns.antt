@@ -1,6 +1,6 @@
 -- One line more in a session.
-use Rattle.std.proofs.Common.{ℕ, ◌+◌, ◌≤◌, ◌≡◌, ◌⊎◌, ⊎_elim, List, [], ◌∷◌, ◌++◌, length, Option, Some, refl, sym, ap, ◌∙◌, subst, append_assoc, arith, length-append}
-use Rattle.std.specs.List.{flat_map}
+use Rattle.std.proofs.Common.{ℕ, ◌+◌, ◌≤◌, ◌≡◌, true, List, [], ◌∷◌, ◌++◌, length, Option, Some, None, refl, sym, ap, ◌∙◌, subst, append_assoc, arith, length-append}
+use Rattle.std.specs.List.{AllByRecursion, flat_map}
 use Rattle.std.specs.Io.KnownBytes.{Consumes}
 use Rattle.std.proofs.lemmas.List.{append-nil}
 use Rattle.std.proofs.lemmas.List.Concat.{flat_map-append}
@@ -8,84 +8,74 @@ use Rattle.sx_base.specs.Clock.{StepsThrough}
 use Rattle.sx_base.proofs.Steps.{steps_append}
 use Rattle.sx_base.proofs.Streams.{consumes_more, consumes_none}
 use Rattle.sx_stage_call.specs.declared.call.Call.{Call}
-use Rattle.sx_stage_call.specs.declared.call.Noted.{Noted}
-use Rattle.sx_book.specs.Passes.{PassView}
-use Rattle.sx_smb_door.specs.Asking.{no_tally, caller_in, with_places, IsAsked, IsAppended, IsHistoryFull, IsOutOfMemory, IsAnswered}
-use Rattle.sx_smb_door.specs.Conversation.{LineOutcome, not_a_call, not_parsed, appended, history_full, no_memory, AnsweredLine, Caller, HasOutcome, HaveOutcomes, seen_after, seen_after_all, places_of, places_of_all, tally_after, tally_after_all, line_bytes, moments_of, moments_of_all, HasText, HasPrefix, HasBegun}
+use Rattle.sx_stage_call.specs.declared.reply.Stop.TheVariants.{NoMemory}
+use Rattle.sx_turn.proofs.Lists.{each_snoc}
+use Rattle.sx_book.specs.OneHistory.{Came, appended, history_full, no_memory, Outcome, Asks, moments_of}
+use Rattle.sx_book.specs.Passes.{PassView, HoldsSession}
+use Rattle.sx_book.proofs.Calls.{asks_none, asks_join}
+use Rattle.sx_smb_door.specs.Asking.{DoorState, caller_in, IsAsked, IsAnswered}
+use Rattle.sx_smb_door.specs.Conversation.{LineOutcome, not_a_call, not_parsed, called, AnsweredLine, IsAnsweredLine, Caller, calls_in, calls_of, answer_of, no_tally, tally_with, tally_after, tally_after_all, line_bytes, HasText, HasPrefix, HasBegun}
 use Rattle.sx_smb_door.specs.Limits.{line_limit}
 use Rattle.sx_smb_door.specs.Lines.{with_line_feed, IsOneLine}
 use Rattle.sx_smb_door.specs.Parse.{call_of}
 use Rattle.sx_smb_door.specs.declared.answer.LineAnswer.{LineAnswer}
+use Rattle.sx_smb_door.specs.declared.answer.LineAnswer.TheVariants.{NotBuilt, Stop as Stopped}
 use Rattle.sx_smb_door.specs.declared.tally.Tally.{Tally}
-
-pub may_more : (w : Caller) (seen : List Noted) (ts : List AnsweredLine) (t : AnsweredLine) → HaveOutcomes w seen ts → IsOneLine t.line → length t.line ≤ line_limit → HasOutcome w (seen_after_all w seen ts) t.line t.outcome → HaveOutcomes w seen (ts ++ t ∷ [])
-may_more w seen [] t h one short may = (one, short, may, tt)
-may_more w seen (u ∷ ts) t h one short may = (h.0, h.1, h.2, may_more w (seen_after w seen u.outcome) ts t h.3 one short may)
-
-pub seen_more : (w : Caller) (seen : List Noted) (ts : List AnsweredLine) (t : AnsweredLine) → seen_after_all w seen (ts ++ t ∷ []) ≡ seen_after w (seen_after_all w seen ts) t.outcome
-seen_more w seen [] t = refl
-seen_more w seen (u ∷ ts) t = seen_more w (seen_after w seen u.outcome) ts t
 
 pub tally_more : (w : Caller) (tally : Tally) (ts : List AnsweredLine) (t : AnsweredLine) → tally_after_all w tally (ts ++ t ∷ []) ≡ tally_after w (tally_after_all w tally ts) t.outcome
 tally_more w tally [] t = refl
 tally_more w tally (u ∷ ts) t = tally_more w (tally_after w tally u.outcome) ts t
 
-pub flat_more : (f : AnsweredLine → List ℕ) (ts : List AnsweredLine) (t : AnsweredLine) → flat_map f (ts ++ t ∷ []) ≡ flat_map f ts ++ f t
-flat_more f ts t = flat_map-append f ts (t ∷ []) ∙ ap (λ (xs : List ℕ). flat_map f ts ++ xs) (append-nil (f t))
+pub flat_more : {A : Type 0} (f : AnsweredLine → List A) (ts : List AnsweredLine) (t : AnsweredLine) → flat_map f (ts ++ t ∷ []) ≡ flat_map f ts ++ f t
+flat_more {A} f ts t = flat_map-append f ts (t ∷ []) ∙ ap (λ (xs : List A). flat_map f ts ++ xs) (append-nil (f t))
 
--- the pass after lines
-abbrev pub after_turns : ℕ → List ℕ → PassView → List AnsweredLine → PassView
-after_turns session share p turns = with_places p (seen_after_all (caller_in p session share) p.seen turns) (places_of_all turns)
+-- the moments of calls behind calls
+pub moments_join : (os us : List Outcome) → moments_of (os ++ us) ≡ moments_of os ++ moments_of us
+moments_join os us = flat_map-append (λ (o : Outcome). o.asked.now ∷ []) os us
 
--- the lines that were answered so far, from one stream, pass and clock to another
-pub record Going {C : Type 0} (session : ℕ) (share : List ℕ) (ticks : C → ℕ → C → Type 0) (line_stream stream' : Option (List ℕ)) (pass pass' : PassView) (clock clock' : C) (tally : Tally) (taken : ℕ) : Type 0 where
+-- the lines that were answered so far, from one stream and state to another
+pub record Going {C : Type 0} (ticks : C → ℕ → C → Type 0) (w : Caller) (stream stream' : Option (List ℕ)) (old new : DoorState C) (taken : ℕ) : Type 0 where
   pub turns : List AnsweredLine
-  pub may : HaveOutcomes (caller_in pass session share) pass.seen turns
-  pub bytes : Consumes line_stream stream' (line_bytes turns)
+  pub lines : AllByRecursion (IsAnsweredLine w.share) turns
+  pub bytes : Consumes stream stream' (line_bytes turns)
   pub taken_is : taken ≡ length (line_bytes turns)
-  pub left : pass' ≡ after_turns session share pass turns
-  pub tallied : tally ≡ tally_after_all (caller_in pass session share) no_tally turns
-  pub told : StepsThrough ticks clock (moments_of_all turns) clock'
+  pub calls : Asks old.pass new.pass (calls_of w turns)
+  pub tallied : new.tally ≡ tally_after_all w no_tally turns
+  pub told : StepsThrough ticks old.clock (moments_of (calls_of w turns)) new.clock
 
 -- no line yet
-unfoldable pub going_none : {C : Type 0} (session : ℕ) (share : List ℕ) (ticks : C → ℕ → C → Type 0) (line_stream : Option (List ℕ)) (pass : PassView) (clock : C) → Going session share ticks line_stream line_stream pass pass clock clock no_tally 0
-going_none session share ticks line_stream pass clock = record {
+unfoldable pub going_none : {C : Type 0} (ticks : C → ℕ → C → Type 0) (w : Caller) (stream : Option (List ℕ)) (s : DoorState C) (taken : ℕ) → s.tally ≡ no_tally → taken ≡ 0 → Going ticks w stream stream s s taken
+going_none ticks w stream s taken none zero = record {
   turns = [];
-  may = tt;
-  bytes = consumes_none line_stream;
-  taken_is = refl;
-  left = ap (λ (m : List ℕ). record pass { mine = m }) (sym (append-nil pass.mine));
-  tallied = refl;
+  lines = tt;
+  bytes = consumes_none stream;
+  taken_is = zero;
+  calls = asks_none s.pass;
+  tallied = none;
   told = refl;
 }
 
--- the pass after one line more
-pub pass_more : (session : ℕ) (share : List ℕ) (p : PassView) (ts : List AnsweredLine) (t : AnsweredLine)
-    → with_places (after_turns session share p ts) (seen_after (caller_in p session share) (seen_after_all (caller_in p session share) p.seen ts) t.outcome) (places_of t.outcome) ≡ after_turns session share p (ts ++ t ∷ [])
-pass_more session share p ts t =
-    let w : Caller = caller_in p session share in
-    let places : (p.mine ++ places_of_all ts) ++ places_of t.outcome ≡ p.mine ++ places_of_all (ts ++ t ∷ []) =
-    append_assoc p.mine (places_of_all ts) (places_of t.outcome) ∙ ap (λ (xs : List ℕ). p.mine ++ xs) (sym (flat_more (λ (u : AnsweredLine). places_of u.outcome) ts t)) in
-    ap (λ (x : List Noted). record p { seen = x; mine = (p.mine ++ places_of_all ts) ++ places_of t.outcome }) (sym (seen_more w p.seen ts t))
-    ∙ ap (λ (m : List ℕ). record p { seen = seen_after_all w p.seen (ts ++ t ∷ []); mine = m }) places
+-- the caller of a session does not change with its calls
+pub same_caller : (session : ℕ) (share : List ℕ) (p q : PassView) (os : List Outcome) → Asks p q os → caller_in q session share ≡ caller_in p session share
+same_caller session share p q os a = ap (λ (x : PassView). caller_in x session share) a.pass
 
 -- the lines with one more
-unfoldable pub going_more : {C : Type 0} (session : ℕ) (share : List ℕ) (ticks : C → ℕ → C → Type 0) (s0 s1 s2 : Option (List ℕ)) (p0 p1 p2 : PassView) (c0 c1 c2 : C) (t1 t2 : Tally) (k1 k2 : ℕ) (line : List ℕ) (answer : LineAnswer)
-    → (g : Going session share ticks s0 s1 p0 p1 c0 c1 t1 k1) → IsOneLine line → length line ≤ line_limit → Consumes s1 s2 (with_line_feed line) → k2 ≡ k1 + length line + 1
-    → IsAnswered session share ticks line (after_turns session share p0 g.turns) p2 c1 c2 t1 t2 answer → Going session share ticks s0 s2 p0 p2 c0 c2 t2 k2
-going_more {C} session share ticks s0 s1 s2 p0 p1 p2 c0 c1 c2 t1 t2 k1 k2 line answer g one short taken count a =
-    let w : Caller = caller_in p0 session share in
-    let t : AnsweredLine = record { line = line; outcome = a.outcome } in
+unfoldable pub going_more : {C : Type 0} (ticks : C → ℕ → C → Type 0) (w : Caller) (s0 s1 s2 : Option (List ℕ)) (a b c : DoorState C) (k1 k2 : ℕ) (line : List ℕ) (answer : LineAnswer)
+    → (g : Going ticks w s0 s1 a b k1) → IsOneLine line → length line ≤ line_limit → Consumes s1 s2 (with_line_feed line) → k2 ≡ k1 + length line + 1
+    → IsAnswered ticks w line b c answer → Going ticks w s0 s2 a c k2
+going_more {C} ticks w s0 s1 s2 a b c k1 k2 line answer g one short taken count last =
+    let t : AnsweredLine = record { line = line; outcome = last.outcome } in
     let lines : line_bytes (g.turns ++ t ∷ []) ≡ line_bytes g.turns ++ with_line_feed line = flat_more (λ (u : AnsweredLine). with_line_feed u.line) g.turns t in
-    let moments : moments_of_all (g.turns ++ t ∷ []) ≡ moments_of_all g.turns ++ moments_of a.outcome = flat_more (λ (u : AnsweredLine). moments_of u.outcome) g.turns t in
+    let calls : calls_of w (g.turns ++ t ∷ []) ≡ calls_of w g.turns ++ calls_in w last.outcome = flat_more (λ (u : AnsweredLine). calls_in w u.outcome) g.turns t in
+    let moments : moments_of (calls_of w (g.turns ++ t ∷ [])) ≡ moments_of (calls_of w g.turns) ++ moments_of (calls_in w last.outcome) = ap moments_of calls ∙ moments_join (calls_of w g.turns) (calls_in w last.outcome) in
     record {
       turns = g.turns ++ t ∷ [];
-      may = may_more w p0.seen g.turns t g.may one short a.may;
+      lines = each_snoc _ g.turns t g.lines (record { one = one; short = short; spells = last.spells });
       bytes = subst (Consumes s0 s2) (sym lines) (consumes_more s0 s1 s2 (line_bytes g.turns) (with_line_feed line) g.bytes taken);
       taken_is = omega (arith, count, g.taken_is, ap length lines, length-append (line_bytes g.turns) (with_line_feed line), length-append line (10 ∷ []));
-      left = a.pass ∙ pass_more session share p0 g.turns t;
-      tallied = a.tallied ∙ ap (λ (x : Tally). tally_after w x a.outcome) g.tallied ∙ sym (tally_more w no_tally g.turns t);
-      told = subst (λ (ms : List ℕ). StepsThrough ticks c0 ms c2) (sym moments) (steps_append ticks c0 c1 c2 (moments_of_all g.turns) (moments_of a.outcome) g.told a.told);
+      calls = subst (Asks a.pass c.pass) (sym calls) (asks_join a.pass b.pass c.pass (calls_of w g.turns) (calls_in w last.outcome) g.calls last.calls);
+      tallied = last.tallied ∙ ap (λ (x : Tally). tally_after w x last.outcome) g.tallied ∙ sym (tally_more w no_tally g.turns t);
+      told = subst (λ (ms : List ℕ). StepsThrough ticks a.clock ms c.clock) (sym moments) (steps_append ticks a.clock b.clock c.clock (moments_of (calls_of w g.turns)) (moments_of (calls_in w last.outcome)) g.told last.told);
     }
 
 -- ---- what was written
@@ -106,27 +96,52 @@ pub text_kept : (first second third : List ℕ → Type 0) (x : List ℕ) → Ha
 text_kept first second third x h keep m w = keep (m ++ x) (h m w)
 
 -- ---- a call that was asked is a line that was answered
-three : {A B D X : Type 0} → A ⊎ B ⊎ D → (A → X) → (B → X) → (D → X) → X
-three s f g h = ⊎_elim f (λ t. ⊎_elim g h t) s
+pub asked_line : {C : Type 0} (ticks : C → ℕ → C → Type 0) (session : ℕ) (share line : List ℕ) (call : Call) (old new : DoorState C) (answer : LineAnswer)
+    → call_of share line ≡ Some call → IsAsked ticks session call old new answer → IsAnswered ticks (caller_in old.pass session share) line old new answer
+asked_line {C} ticks session share line call old new answer is a = record {
+  outcome = called call a.moment a.came;
+  spells = is;
+  calls = a.calls;
+  told = (new.clock, a.told, refl);
+  tallied = a.tallied;
+  answer_is = a.answer_is;
+  printed = a.printed;
+  held = a.held;
+}
 
--- what a pass has seen after a call that came to no place, with no place more
-no_more : (p q : PassView) (seen : List Noted) → q ≡ record p { seen = seen } → q ≡ with_places p seen []
-no_more p q seen e = e ∙ ap (λ (m : List ℕ). record p { seen = seen; mine = m }) (sym (append-nil p.mine))
+-- a line that is not a call
+pub unasked_line : {C : Type 0} (ticks : C → ℕ → C → Type 0) (w : Caller) (line : List ℕ) (s : DoorState C) → call_of w.share line ≡ None → HoldsSession s.pass w.session → IsAnswered ticks w line s s NotBuilt
+unasked_line ticks w line s none held = record {
+  outcome = not_a_call;
+  spells = none;
+  calls = asks_none s.pass;
+  told = refl;
+  tallied = refl;
+  answer_is = refl;
+  printed = refl;
+  held = held;
+}
 
-pub asked_line : {C : Type 0} (session : ℕ) (share : List ℕ) (ticks : C → ℕ → C → Type 0) (line : List ℕ) (call : Call) (old new : PassView) (clock clock' : C) (tally tally' : Tally) (answer : LineAnswer)
-    → call_of share line ≡ Some call → IsAsked session ticks call old new clock clock' tally tally' answer
-    → IsAnswered session share ticks line old new clock clock' tally tally' answer
-asked_line {C} session share ticks line call old new clock clock' tally tally' answer is a =
-    let told : StepsThrough ticks clock (a.moment ∷ []) clock' = (clock', a.told, refl) in
-    three a.cases
-    (λ (b : IsAppended session call old new a.moment tally tally' answer). record { outcome = appended call a.moment b.found; may = (is, b.others, b.room); pass = b.pass; told = told; tallied = b.tallied; answer_is = b.answer_is; printed = a.printed; held = a.held })
-    (λ (b : IsHistoryFull call old new tally tally' answer). record { outcome = history_full call a.moment b.found; may = (is, b.others, b.full); pass = no_more old new b.found b.pass; told = told; tallied = b.tallied; answer_is = b.answer_is; printed = a.printed; held = a.held })
-    (λ (b : IsOutOfMemory old new tally tally' answer). record { outcome = no_memory call a.moment b.found; may = (is, b.others); pass = no_more old new b.found b.pass; told = told; tallied = b.tallied; answer_is = b.answer_is; printed = a.printed; held = a.held })
+-- a line that could not be parsed
+pub unparsed_line : {C : Type 0} (ticks : C → ℕ → C → Type 0) (w : Caller) (line : List ℕ) (s : DoorState C) → HoldsSession s.pass w.session → IsAnswered ticks w line s (record s { tally = record s.tally { no_memory = true } }) (Stopped NoMemory)
+unparsed_line ticks w line s held = record {
+  outcome = not_parsed;
+  spells = tt;
+  calls = asks_none s.pass;
+  told = refl;
+  tallied = refl;
+  answer_is = refl;
+  printed = refl;
+  held = held;
+}
+
+came_after : (limit : ℕ) (t : Tally) (c : Came) → (tally_with limit t c).asked ≡ t.asked
+came_after limit t (appended place reply) = refl
+came_after limit t (history_full n s) = refl
+came_after limit t no_memory = refl
 
 -- an outcome counts at most one call
 pub asked_after : (w : Caller) (t : Tally) (o : LineOutcome) → (tally_after w t o).asked ≤ t.asked + 1
 asked_after w t not_a_call = omega arith
 asked_after w t not_parsed = omega arith
-asked_after w t (appended call moment found) = omega arith
-asked_after w t (history_full call moment found) = omega arith
-asked_after w t (no_memory call moment found) = omega arith
+asked_after w t (called call moment came) = omega (arith, came_after w.limit (record t { asked = t.asked + 1 }) came)

@@ -1,20 +1,21 @@
 -- What a session is answered, line after line, from its Start to its End.
 use Rattle.std.specs.Prelude.{ℕ, ◌+◌, ◌-◌, ◌<◌, ◌≤◌, ◌≡◌, ◌⊎◌, false, true, List, [], ◌∷◌, ◌++◌, length, IfSome}
 use Rattle.std.specs.Prelude.{Option, Some, None}
-use Rattle.std.specs.List.{flat_map}
+use Rattle.std.specs.List.{AllByRecursion, flat_map}
 use Rattle.std.specs.Io.KnownBytes.{Consumes, IsAtEnd, Keeps, prepend_known}
 use mathlib.Core.List.{IsPrefix}
 use Rattle.sx_base.specs.Causes.{Rose}
 use Rattle.sx_base.specs.Clock.{StepsThrough}
+use Rattle.sx_base.specs.Sides.{Sides}
 use Rattle.sx_stage_call.specs.declared.call.Call.{Call}
 use Rattle.sx_stage_call.specs.declared.call.Call.TheVariants.{Start, End}
-use Rattle.sx_stage_call.specs.declared.call.Entry.{Entry}
-use Rattle.sx_stage_call.specs.declared.call.Noted.{Noted}
+use Rattle.sx_stage_call.specs.declared.reply.Reply.{Reply}
+use Rattle.sx_stage_call.specs.declared.reply.Reply.TheVariants.{Smb}
+use Rattle.sx_stage_call.specs.declared.reply.SmbReply.TheVariants.{Started}
 use Rattle.sx_stage_call.specs.declared.reply.Stop.{Stop as Stopped}
 use Rattle.sx_stage_call.specs.declared.reply.Stop.TheVariants as stop
-use Rattle.sx_stage_spec.specs.History.{wants}
-use Rattle.sx_stage_spec.specs.Step.{step, replay}
-use Rattle.sx_book.specs.Passes.{GrowsByOthers, entry_behind, with_noted, next_number}
+use Rattle.sx_stage_spec.specs.History.{History}
+use Rattle.sx_book.specs.OneHistory.{Came, appended, history_full, no_memory, Outcome, AreCallsIn, moments_of}
 use Rattle.sx_book.specs.declared.report.Full.{Full}
 use Rattle.sx_book.specs.declared.report.ConnEnd.{ConnEnd}
 use Rattle.sx_book.specs.declared.report.ConnEnd.TheVariants as finish
@@ -27,16 +28,14 @@ use Rattle.sx_smb_door.specs.declared.answer.LineAnswer.{LineAnswer}
 use Rattle.sx_smb_door.specs.declared.answer.LineAnswer.TheVariants.{Core, NotBuilt, Long, Stop}
 use Rattle.sx_smb_door.specs.declared.tally.Tally.{Tally}
 
--- the outcome of a line: it is not a call; no memory was left to parse it; or its call was asked at a moment of the
--- clock, found a history, and was appended behind it, found it full, or found no memory
+-- what came of a line: it is not a call; no memory was left to parse it; or its call was asked at a moment of the
+-- clock, and came to this
 pub data LineOutcome : Type 0 where
   not_a_call : LineOutcome
   not_parsed : LineOutcome
-  appended : Call → ℕ → List Noted → LineOutcome
-  history_full : Call → ℕ → List Noted → LineOutcome
-  no_memory : Call → ℕ → List Noted → LineOutcome
+  called : Call → ℕ → Came → LineOutcome
 
--- a line without its line feed, and its outcome
+-- a line without its line feed, and what came of it
 pub record AnsweredLine : Type 0 where
   pub line : List ℕ
   pub outcome : LineOutcome
@@ -48,131 +47,118 @@ pub record Caller : Type 0 where
   pub share : List ℕ
   pub limit : ℕ
 
--- the entry of a call of a session, behind this history; it draws no random number
-abbrev pub entry_of : ℕ → ℕ → List Noted → ℕ → Call → Entry
-entry_of who session found moment call = entry_behind found who session moment 0 call
+-- the line spells the call that was asked, or none
+abbrev pub Spells : List ℕ → List ℕ → LineOutcome → Type 0
+Spells share line not_a_call = call_of share line ≡ None
+Spells share line not_parsed = Unit {0}
+Spells share line (called call moment came) = call_of share line ≡ Some call
 
--- the history's numbers when it is full
-abbrev pub full_of : ℕ → List Noted → Full
-full_of limit ns = record { entries = length ns; sessions = length (replay ns).sessions; limit = limit }
+-- a line within its limit, and what it spells in a session of this share
+pub record IsAnsweredLine (share : List ℕ) (t : AnsweredLine) : Type 0 where
+  pub one : IsOneLine t.line
+  pub short : length t.line ≤ line_limit
+  pub spells : Spells share t.line t.outcome
 
--- a line may have this outcome, where so much of the history was seen: what was found beyond that are entries of others
-abbrev pub HasOutcome : Caller → List Noted → List ℕ → LineOutcome → Type 0
-HasOutcome w seen line not_a_call = call_of w.share line ≡ None
-HasOutcome w seen line not_parsed = Unit {0}
-HasOutcome w seen line (appended call moment found) =
-    (call_of w.share line ≡ Some call) × GrowsByOthers w.who seen found
-    × (length found + wants (replay found) call ≤ w.limit)
-HasOutcome w seen line (history_full call moment found) =
-    (call_of w.share line ≡ Some call) × GrowsByOthers w.who seen found
-    × (w.limit < length found + wants (replay found) call)
-HasOutcome w seen line (no_memory call moment found) =
-    (call_of w.share line ≡ Some call) × GrowsByOthers w.who seen found
+-- a call in a session, and what it came to; it draws no random number
+abbrev pub call_with : ℕ → ℕ → Call → ℕ → Came → Outcome
+call_with who session call moment came =
+    record { asked = record { who = who; session = session; call = call; now = moment; fresh = 0 }; came = came }
 
--- what is seen of the history after an outcome
-abbrev pub seen_after : Caller → List Noted → LineOutcome → List Noted
-seen_after w seen not_a_call = seen
-seen_after w seen not_parsed = seen
-seen_after w seen (appended call moment found) = with_noted found (entry_of w.who w.session found moment call)
-seen_after w seen (history_full call moment found) = found
-seen_after w seen (no_memory call moment found) = found
+-- the call of a line, if it was asked
+abbrev pub calls_in : Caller → LineOutcome → List Outcome
+calls_in w not_a_call = []
+calls_in w not_parsed = []
+calls_in w (called call moment came) = call_with w.who w.session call moment came ∷ []
 
--- the place at which an outcome's call was appended, if it was
-abbrev pub places_of : LineOutcome → List ℕ
-places_of not_a_call = []
-places_of not_parsed = []
-places_of (appended call moment found) = (length found + 1) ∷ []
-places_of (history_full call moment found) = []
-places_of (no_memory call moment found) = []
+-- the calls of lines
+abbrev pub calls_of : Caller → List AnsweredLine → List Outcome
+calls_of w ts = flat_map (λ t. calls_in w t.outcome) ts
+
+-- the answer to a call
+abbrev pub answer_to : ℕ → Came → LineAnswer
+answer_to limit (appended place reply) = Core place reply
+answer_to limit (history_full entries sessions) = Stop (stop.HistoryFull entries sessions limit)
+answer_to limit no_memory = Stop stop.NoMemory
 
 -- the answer to a line of this outcome
 abbrev pub answer_of : Caller → LineOutcome → LineAnswer
 answer_of w not_a_call = NotBuilt
 answer_of w not_parsed = Stop stop.NoMemory
-answer_of w (appended call moment found) =
-    Core (length found + 1) (step (replay found) (entry_of w.who w.session found moment call)).1
-answer_of w (history_full call moment found) =
-    Stop (stop.HistoryFull (length found) (length (replay found).sessions) w.limit)
-answer_of w (no_memory call moment found) = Stop stop.NoMemory
+answer_of w (called call moment came) = answer_to w.limit came
 
--- the moments that the clock told for an outcome
-abbrev pub moments_of : LineOutcome → List ℕ
-moments_of not_a_call = []
-moments_of not_parsed = []
-moments_of (appended call moment found) = moment ∷ []
-moments_of (history_full call moment found) = moment ∷ []
-moments_of (no_memory call moment found) = moment ∷ []
+-- nothing was asked yet
+abbrev pub no_tally : Tally
+no_tally = record { asked = 0; full = None; no_memory = false }
 
--- what a report counts, after an outcome: the calls asked, the last time that the history was full, and whether
--- memory ran out
+-- what a report counts, after a call: the last time that the history was full, and whether memory ran out
+abbrev pub tally_with : ℕ → Tally → Came → Tally
+tally_with limit t (appended place reply) = t
+tally_with limit t (history_full entries sessions) = record t {
+  full = Some (record { entries = entries; sessions = sessions; limit = limit });
+}
+tally_with limit t no_memory = record t { no_memory = true }
+
+-- what a report counts, after a line
 abbrev pub tally_after : Caller → Tally → LineOutcome → Tally
 tally_after w t not_a_call = t
 tally_after w t not_parsed = record t { no_memory = true }
-tally_after w t (appended call moment found) = record t { asked = t.asked + 1 }
-tally_after w t (history_full call moment found) = record t { asked = t.asked + 1; full = Some (full_of w.limit found) }
-tally_after w t (no_memory call moment found) = record t { asked = t.asked + 1; no_memory = true }
-
--- lines one after another: each may have its outcome, after those before it
-abbrev pub HaveOutcomes : Caller → List Noted → List AnsweredLine → Type 0
-HaveOutcomes w seen [] = Unit {0}
-HaveOutcomes w seen (t ∷ ts) =
-    IsOneLine t.line × (length t.line ≤ line_limit) × HasOutcome w seen t.line t.outcome
-    × HaveOutcomes w (seen_after w seen t.outcome) ts
-
--- what is seen of the history after lines
-abbrev pub seen_after_all : Caller → List Noted → List AnsweredLine → List Noted
-seen_after_all w seen [] = seen
-seen_after_all w seen (t ∷ ts) = seen_after_all w (seen_after w seen t.outcome) ts
-
--- the printed answers to lines
-abbrev pub answers_to : Caller → List AnsweredLine → List ℕ
-answers_to w ts = flat_map (λ t. answer_text (answer_of w t.outcome)) ts
+tally_after w t (called call moment came) = tally_with w.limit (record t { asked = t.asked + 1 }) came
 
 -- what a report counts, after lines
 abbrev pub tally_after_all : Caller → Tally → List AnsweredLine → Tally
 tally_after_all w tally [] = tally
 tally_after_all w tally (t ∷ ts) = tally_after_all w (tally_after w tally t.outcome) ts
 
--- the places at which the calls of lines were appended
-abbrev pub places_of_all : List AnsweredLine → List ℕ
-places_of_all ts = flat_map (λ t. places_of t.outcome) ts
+-- the printed answers to lines
+abbrev pub answers_to : Caller → List AnsweredLine → List ℕ
+answers_to w ts = flat_map (λ t. answer_text (answer_of w t.outcome)) ts
 
 -- the bytes of the lines, with their line feeds
 abbrev pub line_bytes : List AnsweredLine → List ℕ
 line_bytes ts = flat_map (λ t. with_line_feed t.line) ts
 
--- the moments that the clock told for lines
-abbrev pub moments_of_all : List AnsweredLine → List ℕ
-moments_of_all ts = flat_map (λ t. moments_of t.outcome) ts
+-- what was said in a session: the lines that were answered, how many bytes they have, how they ended, what the link had
+-- left behind them, and which bytes of that were taken and not given
+pub record Talk : Type 0 where
+  pub turns : List AnsweredLine
+  pub given : ℕ
+  pub end : ConnEnd
+  pub rest : Option (List ℕ)
+  pub held : List ℕ
 
--- how a session's lines ended: why no further line was answered, by what the link had left, which bytes of it were
--- taken and not given, how many bytes the lines have, the budget, and the link's counts of failed reads and puts
-abbrev pub IsEnd : ConnEnd → Option (List ℕ) → List ℕ → ℕ → ℕ → ℕ → ℕ → ℕ → ℕ → Type 0
-IsEnd finish.Ended rest held taken budget reads reads' writes writes' = IsAtEnd rest × (taken < budget)
-IsEnd (finish.Closed None) rest held taken budget reads reads' writes writes' = ⊥
-IsEnd (finish.Closed (Some at)) rest held taken budget reads reads' writes writes' =
-    IfSome rest (BeginsUnended (line_limit + 1)) × (at ≡ taken)
-IsEnd (finish.Cut left) rest held taken budget reads reads' writes writes' =
-    IfSome rest (IsCutLine left) × (1 ≤ left) × (left ≤ line_limit) × (taken + left < budget)
-IsEnd finish.Spent rest held taken budget reads reads' writes writes' =
-    IfSome rest (BeginsUnended (budget - taken)) × (taken ≤ budget) × (budget ≤ taken + line_limit)
-IsEnd finish.ReadFault rest held taken budget reads reads' writes writes' =
-    Rose reads reads' × IsOneLine held × (length held ≤ line_limit)
-IsEnd finish.WriteFault rest held taken budget reads reads' writes writes' = Rose writes writes'
-IsEnd (finish.Full full) rest held taken budget reads reads' writes writes' = ⊥
-IsEnd finish.NoMemory rest held taken budget reads reads' writes writes' = Unit {0}
+-- the lines were taken off the link, and what was taken in all is within the budget: what the link had left behind
+-- the lines is what was taken of it and not given, and what it has left
+pub record TakesLines (budget : ℕ) (t : Talk) (old new : Sides) : Type 0 where
+  pub lines : Consumes old.left t.rest (line_bytes t.turns)
+  pub given_is : t.given ≡ length (line_bytes t.turns)
+  pub unread : Keeps t.rest (prepend_known t.held new.left)
+  pub within : t.given + length t.held ≤ budget
 
--- the bytes that are reported as taken: those of the lines, with those of a line that was cut, and the budget where
--- it is spent
-abbrev pub taken_at : ConnEnd → ℕ → ℕ → ℕ
-taken_at finish.Ended taken budget = taken
-taken_at (finish.Closed at) taken budget = taken
-taken_at (finish.Cut left) taken budget = taken + left
-taken_at finish.Spent taken budget = budget
-taken_at finish.ReadFault taken budget = taken
-taken_at finish.WriteFault taken budget = taken
-taken_at (finish.Full full) taken budget = taken
-taken_at finish.NoMemory taken budget = taken
+-- why no further line was answered, by what was left behind the lines and held of it, the budget, and the link's counts
+-- of failed reads and puts
+abbrev pub IsEnd : ConnEnd → ℕ → Talk → Sides → Sides → Type 0
+IsEnd finish.Ended budget t old new = IsAtEnd t.rest × (t.held ≡ []) × (t.given < budget)
+IsEnd (finish.Closed None) budget t old new = ⊥
+IsEnd (finish.Closed (Some at)) budget t old new =
+    IfSome t.rest (BeginsUnended (line_limit + 1)) × BeginsUnended (line_limit + 1) t.held × (at ≡ t.given)
+IsEnd (finish.Cut left) budget t old new =
+    IfSome t.rest (IsCutLine left) × IsCutLine left t.held × (1 ≤ left) × (left ≤ line_limit)
+    × (t.given + left < budget)
+IsEnd finish.Spent budget t old new =
+    IfSome t.rest (BeginsUnended (budget - t.given)) × IsCutLine (budget - t.given) t.held
+    × (t.given ≤ budget) × (budget ≤ t.given + line_limit)
+IsEnd finish.ReadFault budget t old new =
+    Rose old.reads new.reads × IsOneLine t.held × (length t.held ≤ line_limit)
+    × (t.given + length t.held < budget)
+IsEnd finish.WriteFault budget t old new = Rose old.writes new.writes
+IsEnd (finish.Full full) budget t old new = ⊥
+IsEnd finish.NoMemory budget t old new = Unit {0}
+
+-- the counts of failed reads and puts are as they were, but for that of the failure by which the session ended
+abbrev pub KeepsCounts : ConnEnd → Sides → Sides → Type 0
+KeepsCounts finish.ReadFault old new = new.writes ≡ old.writes
+KeepsCounts finish.WriteFault old new = new.reads ≡ old.reads
+KeepsCounts end old new = (new.reads ≡ old.reads) × (new.writes ≡ old.writes)
 
 -- the text was written behind what was written before
 abbrev pub HasText : (List ℕ → Type 0) → (List ℕ → Type 0) → List ℕ → Type 0
@@ -196,63 +182,39 @@ pub record BreaksAtAnswer (w : Caller) (turns : List AnsweredLine) (wrote wrote'
   pub begun : HasBegun wrote wrote' (answers_to w answered) (answer_text (answer_of w last.outcome))
 
 -- a write failed at the refusal of a line over its limit: all answers were written, and a prefix of that
-abbrev pub BreaksAtRefusal : Caller → List AnsweredLine → Option (List ℕ) → (List ℕ → Type 0) → (List ℕ → Type 0)
-    → Type 0
-BreaksAtRefusal w turns rest wrote wrote' =
-    IfSome rest (BeginsUnended (line_limit + 1)) × HasBegun wrote wrote' (answers_to w turns) (answer_text Long)
+abbrev pub BreaksAtRefusal : Caller → Talk → (List ℕ → Type 0) → (List ℕ → Type 0) → Type 0
+BreaksAtRefusal w t wrote wrote' =
+    IfSome t.rest (BeginsUnended (line_limit + 1)) × BeginsUnended (line_limit + 1) t.held
+    × HasBegun wrote wrote' (answers_to w t.turns) (answer_text Long)
 
 -- what was written: the answers, with the refusal of a line over its limit behind them, up to the write that failed
-abbrev pub HasWritten : ConnEnd → Caller → List AnsweredLine → Option (List ℕ) → (List ℕ → Type 0) → (List ℕ → Type 0)
-    → Type 0
-HasWritten finish.WriteFault w turns rest wrote wrote' =
-    BreaksAtAnswer w turns wrote wrote' ⊎ BreaksAtRefusal w turns rest wrote wrote'
-HasWritten (finish.Closed at) w turns rest wrote wrote' = HasText wrote wrote' (answers_to w turns ++ answer_text Long)
-HasWritten end w turns rest wrote wrote' = HasText wrote wrote' (answers_to w turns)
+abbrev pub HasWritten : ConnEnd → Caller → Talk → (List ℕ → Type 0) → (List ℕ → Type 0) → Type 0
+HasWritten finish.WriteFault w t wrote wrote' =
+    BreaksAtAnswer w t.turns wrote wrote' ⊎ BreaksAtRefusal w t wrote wrote'
+HasWritten (finish.Closed at) w t wrote wrote' = HasText wrote wrote' (answers_to w t.turns ++ answer_text Long)
+HasWritten end w t wrote wrote' = HasText wrote wrote' (answers_to w t.turns)
 
--- a link's streams and counts of failures, what a pass has seen of the history with the places of its own entries
--- there, and a clock, before or after a call
-pub record SessionState (C : Type 0) : Type 0 where
-  pub left : Option (List ℕ)
-  pub reads : ℕ
-  pub writes : ℕ
-  pub seen : List Noted
-  pub mine : List ℕ
-  pub clock : C
-
--- the counts of failed reads and puts are as they were, but for that of the failure by which the session ended
-abbrev pub KeepsCounts : ConnEnd → ℕ → ℕ → ℕ → ℕ → Type 0
-KeepsCounts finish.ReadFault reads reads' writes writes' = writes' ≡ writes
-KeepsCounts finish.WriteFault reads reads' writes writes' = reads' ≡ reads
-KeepsCounts end reads reads' writes writes' = (reads' ≡ reads) × (writes' ≡ writes)
-
--- the lines that a session answered, and how it ended: what the link had left behind the lines is what was taken of
--- it and not given, and what it has left
-pub record ServedLines {C : Type 0} (w : Caller) (budget : ℕ) (ticks : C → ℕ → C → Type 0)
-    (wrote wrote' : List ℕ → Type 0) (old new : SessionState C) (tally : Tally) (end : ConnEnd) (taken : ℕ)
+-- the lines of a session of this caller: what they spell, what was taken off the link, what was written, and how they
+-- ended
+pub record ServesLines (w : Caller) (budget : ℕ) (t : Talk) (wrote wrote' : List ℕ → Type 0) (old new : Sides)
     : Type 0 where
-  pub turns : List AnsweredLine
-  pub may : HaveOutcomes w old.seen turns
-  pub rest : Option (List ℕ)
-  pub bytes : Consumes old.left rest (line_bytes turns)
-  pub held : List ℕ
-  pub unread : Keeps rest (prepend_known held new.left)
-  pub taken_is : taken ≡ length (line_bytes turns)
-  pub within : taken ≤ budget
-  pub seen : new.seen ≡ seen_after_all w old.seen turns
-  pub mine : new.mine ≡ old.mine ++ places_of_all turns
-  pub tallied : tally ≡ tally_after_all w (record { asked = 0; full = None; no_memory = false }) turns
-  pub told : StepsThrough ticks old.clock (moments_of_all turns) new.clock
-  pub written : HasWritten end w turns rest wrote wrote'
-  pub ended : IsEnd end rest held taken budget old.reads new.reads old.writes new.writes
-  pub counts : KeepsCounts end old.reads new.reads old.writes new.writes
+  pub lines : AllByRecursion (IsAnsweredLine w.share) t.turns
+  pub bytes : TakesLines budget t old new
+  pub answers : HasWritten t.end w t wrote wrote'
+  pub end : IsEnd t.end budget t old new
+  pub counts : KeepsCounts t.end old new
 
--- the entry of a session's start
-abbrev pub start_entry : ℕ → List Noted → ℕ → ℕ → Entry
-start_entry who found moment peer = entry_behind found who 0 moment 0 (Start peer)
-
--- the entry of a session's end
-abbrev pub end_entry : ℕ → ℕ → List Noted → ℕ → Entry
-end_entry who session found moment = entry_behind found who session moment 0 End
+-- the bytes that are reported as taken: those of the lines, with those of a line that was cut, and the budget where
+-- it is spent
+abbrev pub taken_at : ConnEnd → ℕ → ℕ → ℕ
+taken_at finish.Ended taken budget = taken
+taken_at (finish.Closed at) taken budget = taken
+taken_at (finish.Cut left) taken budget = taken + left
+taken_at finish.Spent taken budget = budget
+taken_at finish.ReadFault taken budget = taken
+taken_at finish.WriteFault taken budget = taken
+taken_at (finish.Full full) taken budget = taken
+taken_at finish.NoMemory taken budget = taken
 
 -- the report of a session whose lines ended so
 abbrev pub report_of : ConnEnd → ℕ → ℕ → Tally → ConnReport
@@ -274,55 +236,78 @@ end_of stop.NoMemory = finish.NoMemory
 end_of (stop.HistoryFull entries sessions limit) =
     finish.Full (record { entries = entries; sessions = sessions; limit = limit })
 
--- a session that was started at a moment, behind the history that it found, answered its lines, and was ended at a
--- moment, behind the history that was found then
-pub record Session {C : Type 0} (who limit peer budget : ℕ) (share : List ℕ) (ticks : C → ℕ → C → Type 0)
-    (wrote wrote' : List ℕ → Type 0) (old new : SessionState C) (report : ConnReport) : Type 0 where
-  pub started : ℕ
-  pub began : C
-  pub start : ticks old.clock started began
-  pub found : List Noted
-  pub others : GrowsByOthers who old.seen found
-  pub room : length found + wants (replay found) (Start peer) ≤ limit
-  pub opened : SessionState C
-  pub opened_is : opened ≡ record old {
-    seen = with_noted found (start_entry who found started peer);
-    mine = old.mine ++ (length found + 1) ∷ [];
-    clock = began;
-  }
-  pub answered : SessionState C
-  pub tally : Tally
-  pub end : ConnEnd
-  pub taken : ℕ
-  pub lines : ServedLines (record { who = who; session = next_number found; share = share; limit = limit }) budget ticks
-      wrote wrote' opened answered tally end taken
-  pub finished : ℕ
-  pub stop : ticks answered.clock finished new.clock
-  pub last : List Noted
-  pub since : GrowsByOthers who answered.seen last
-  pub closed : new ≡ record answered {
-    seen = with_noted last (end_entry who (next_number found) last finished);
-    mine = answered.mine ++ (length last + 1) ∷ [];
-    clock = new.clock;
-  }
-  pub report_is : report ≡ report_of end taken budget tally
+-- a session that is served: by which caller, for which peer, on which share, with which budget of bytes; the history at
+-- its end, and how many entries of that had been seen as it began
+pub record Visit : Type 0 where
+  pub who : ℕ
+  pub peer : ℕ
+  pub share : List ℕ
+  pub budget : ℕ
+  pub history : History
+  pub from : ℕ
 
--- a session whose start was refused: it read and wrote nothing, and has no entry; what was seen more are entries of
--- others
-pub record IsUnstarted {C : Type 0} (who limit peer : ℕ) (ticks : C → ℕ → C → Type 0) (wrote wrote' : List ℕ → Type 0)
-    (old new : SessionState C) (report : ConnReport) : Type 0 where
-  pub asked : ℕ
-  pub start : ticks old.clock asked new.clock
-  pub kept : new ≡ record old { seen = new.seen; clock = new.clock }
-  pub others : GrowsByOthers who old.seen new.seen
-  pub written : HasText wrote wrote' []
-  pub cause : (report ≡ unstarted_report finish.NoMemory)
-      ⊎ ((report ≡ unstarted_report (finish.Full (full_of limit new.seen)))
-      × (limit < length new.seen + wants (replay new.seen) (Start peer)))
+-- a link's sides, and a clock, before or after a call
+pub record LinkState (C : Type 0) : Type 0 where
+  pub sides : Sides
+  pub clock : C
+
+-- the caller of the visit's session of a number
+abbrev pub caller_of_visit : Visit → ℕ → Caller
+caller_of_visit v session = record { who = v.who; session = session; share = v.share; limit = v.history.limit }
+
+-- the call that starts a session
+abbrev pub start_call : Visit → ℕ → Came → Outcome
+start_call v moment came = call_with v.who 0 (Start v.peer) moment came
+
+-- the Start of a session and its End: the moment, the place, and the reply, which for the Start is the session's number
+pub record Bounds : Type 0 where
+  pub session : ℕ
+  pub started : ℕ
+  pub first : ℕ
+  pub finished : ℕ
+  pub last : ℕ
+  pub reply : Reply
+
+-- the calls of a whole session: its Start, those of its lines, and its End
+abbrev pub session_calls : Visit → Bounds → List AnsweredLine → List Outcome
+session_calls v b turns =
+    start_call v b.started (appended b.first (Smb (Started b.session)))
+    ∷ (calls_of (caller_of_visit v b.session) turns
+    ++ call_with v.who b.session End b.finished (appended b.last b.reply) ∷ [])
+
+-- a session that was started, answered its lines, and was ended: its calls in the history, the moments that the clock
+-- told for them, its lines, and its report
+pub record Session {C : Type 0} (ticks : C → ℕ → C → Type 0) (wrote wrote' : List ℕ → Type 0) (v : Visit)
+    (old new : LinkState C) (report : ConnReport) : Type 0 where
+  pub bounds : Bounds
+  pub talk : Talk
+  pub history : AreCallsIn v.history v.who v.from (session_calls v bounds talk.turns)
+  pub moments : StepsThrough ticks old.clock (moments_of (session_calls v bounds talk.turns)) new.clock
+  pub served : ServesLines (caller_of_visit v bounds.session) v.budget talk wrote wrote' old.sides new.sides
+  pub report_is : report
+      ≡ report_of talk.end talk.given v.budget
+      (tally_after_all (caller_of_visit v bounds.session) no_tally talk.turns)
+
+-- the report of a session whose start was not appended
+abbrev pub IsRefused : ℕ → Came → ConnReport → Type 0
+IsRefused limit (appended place reply) report = ⊥
+IsRefused limit (history_full entries sessions) report =
+    report ≡ unstarted_report (finish.Full (record { entries = entries; sessions = sessions; limit = limit }))
+IsRefused limit no_memory report = report ≡ unstarted_report finish.NoMemory
+
+-- a session whose start was refused: it read and wrote nothing, and has no entry
+pub record IsUnstarted {C : Type 0} (ticks : C → ℕ → C → Type 0) (wrote wrote' : List ℕ → Type 0) (v : Visit)
+    (old new : LinkState C) (report : ConnReport) : Type 0 where
+  pub moment : ℕ
+  pub came : Came
+  pub history : AreCallsIn v.history v.who v.from (start_call v moment came ∷ [])
+  pub moments : ticks old.clock moment new.clock
+  pub unread : new.sides ≡ old.sides
+  pub answers : HasText wrote wrote' []
+  pub report_is : IsRefused v.history.limit came report
 
 -- what a session does and reports
-abbrev pub Conversation : {C : Type 0} → ℕ → ℕ → ℕ → ℕ → List ℕ → (C → ℕ → C → Type 0) → (List ℕ → Type 0)
-    → (List ℕ → Type 0) → SessionState C → SessionState C → ConnReport → Type 0
-Conversation who limit peer budget share ticks wrote wrote' old new report =
-    IsUnstarted who limit peer ticks wrote wrote' old new report
-    ⊎ Session who limit peer budget share ticks wrote wrote' old new report
+abbrev pub Conversation : {C : Type 0} → (C → ℕ → C → Type 0) → (List ℕ → Type 0) → (List ℕ → Type 0) → Visit
+    → LinkState C → LinkState C → ConnReport → Type 0
+Conversation ticks wrote wrote' v old new report =
+    IsUnstarted ticks wrote wrote' v old new report ⊎ Session ticks wrote wrote' v old new report

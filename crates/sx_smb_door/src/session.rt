@@ -1,10 +1,12 @@
 //! A session from its start to its end.
 ghost use Rattle.std.specs.Prelude.{◌≡◌, ◌+◌, ◌-◌, ◌<◌, ◌≤◌, ◌^◌, ◌⊎◌, [], true, ℕ, IfOk, length};
-ghost use Rattle.std.specs.Io.KnownBytes.{prepend_known};
-ghost use Rattle.sx_book.specs.Passes.{HoldsSession, KeepsSessions};
-ghost use Rattle.sx_smb_door.specs.Conversation.{SessionState, ServedLines, Conversation, report_of, taken_at, end_of};
-ghost use Rattle.sx_smb_door.specs.Conversation.{unstarted_report};
-ghost use Rattle.sx_smb_door.specs.Asking.{caller_in, IsAsked, IsAnswered, tally_with_stop, no_tally};
+ghost use mathlib.Core.List.{IsPrefix};
+ghost use Rattle.sx_stage_spec.specs.History.{IsHistory};
+ghost use Rattle.sx_book.specs.OneHistory.{history_of};
+ghost use Rattle.sx_book.specs.Passes.{HasOwnPlaces, HoldsSession, KeepsSessions};
+ghost use Rattle.sx_smb_door.specs.Asking.{caller_in, IsAsked, IsAnswered, IsServed, tally_with_stop};
+ghost use Rattle.sx_smb_door.specs.Conversation.{Conversation, ServesLines, Talk, no_tally, report_of, taken_at};
+ghost use Rattle.sx_smb_door.specs.Conversation.{end_of, unstarted_report};
 ghost use Rattle.sx_smb_door.specs.Parse.{is_session_call};
 
 use crate::answer::{LineAnswer, print_line};
@@ -53,8 +55,9 @@ fn answer_call<R: Wait, C: Clock>(
     requires call { is_session_call call ≡ true }
     requires asked { tally.old.asked + 1 < 2 ^ 64 }
     ensures keeps { KeepsSessions pass.old pass.new }
-    ensures asked { IsAsked session.now C.ticks call pass.old pass.new clock.old clock.new
-        tally.old tally.new result }
+    ensures asked { IsAsked C.ticks session.now call
+        (record { pass = pass.old; clock = clock.old; tally = tally.old })
+        (record { pass = pass.new; clock = clock.new; tally = tally.new }) result }
 {
     let now = clock.now();
     tally.asked += 1;
@@ -86,8 +89,9 @@ fn answer_line<R: Wait, C: Clock>(
     requires held { HoldsSession pass.old session.now }
     requires asked { tally.old.asked + 1 < 2 ^ 64 }
     ensures keeps { KeepsSessions pass.old pass.new }
-    ensures answered { IsAnswered session.now share.now C.ticks line.now pass.old pass.new clock.old clock.new
-        tally.old tally.new result }
+    ensures answered { IsAnswered C.ticks (caller_in pass.old session.now share.now) line.now
+        (record { pass = pass.old; clock = clock.old; tally = tally.old })
+        (record { pass = pass.new; clock = clock.new; tally = tally.new }) result }
 {
     match call_of_line(alloc, share, line) {
         Err(_) => {
@@ -116,28 +120,18 @@ fn serve_lines<R: Wait, L: Link, C: Clock>(
     requires held { HoldsSession pass.old session.now }
     requires reader { (reader.old.held ≡ []) × (reader.old.taken ≡ 0) }
     requires tally { tally.old ≡ no_tally }
-    ensures served { ServedLines (caller_in pass.old session.now share.now) reader.old.budget C.ticks
+    ensures served { (talk : Talk) × (talk.end ≡ result)
+        × IsServed C.ticks (caller_in pass.old session.now share.now) talk
+        (record { pass = pass.old; clock = clock.old; tally = tally.old })
+        (record { pass = pass.new; clock = clock.new; tally = tally.new }) reader.new.taken
+        × ServesLines (caller_in pass.old session.now share.now) reader.old.budget talk
         (L.wrote link.old) (L.wrote link.new)
-        (record {
-          left = L.left link.old;
-          reads = L.read_count link.old;
-          writes = L.write_count link.old;
-          seen = pass.old.seen;
-          mine = pass.old.mine;
-          clock = clock.old;
-        })
-        (record {
-          left = L.left link.new;
-          reads = L.read_count link.new;
-          writes = L.write_count link.new;
-          seen = pass.new.seen;
-          mine = pass.new.mine;
-          clock = clock.new;
-        }) tally.new result reader.new.taken }
+        (record { left = L.left link.old; reads = L.read_count link.old; writes = L.write_count link.old })
+        (record { left = L.left link.new; reads = L.read_count link.new; writes = L.write_count link.new }) }
     ensures held { HoldsSession pass.new session.now }
     ensures keeps { KeepsSessions pass.old pass.new }
     ensures pass { pass.new ≡ record pass.old { seen = pass.new.seen; mine = pass.new.mine } }
-    ensures within { reader.new.taken + length reader.new.held ≤ reader.old.budget }
+    ensures within { reader.new.taken ≤ reader.old.budget }
     ensures calls { L.calls link.old link.new }
 {
     loop {
@@ -242,24 +236,25 @@ pub fn serve_session<R: Wait, L: Link, C: Clock>(
     budget: u64,
 ) -> ConnReport
     requires own { pass.old.office ≡ office.now }
-    ensures conversation { Conversation pass.old.number pass.old.limit (L.peer_of link.old) budget share.now C.ticks
-        (L.wrote link.old) (L.wrote link.new)
+    ensures conversation { Conversation C.ticks (L.wrote link.old) (L.wrote link.new)
         (record {
-          left = L.left link.old;
-          reads = L.read_count link.old;
-          writes = L.write_count link.old;
-          seen = pass.old.seen;
-          mine = pass.old.mine;
+          who = pass.old.number;
+          peer = L.peer_of link.old;
+          share = share.now;
+          budget = budget;
+          history = history_of pass.new;
+          from = length pass.old.seen;
+        })
+        (record {
+          sides = record { left = L.left link.old; reads = L.read_count link.old; writes = L.write_count link.old };
           clock = clock.old;
         })
         (record {
-          left = L.left link.new;
-          reads = L.read_count link.new;
-          writes = L.write_count link.new;
-          seen = pass.new.seen;
-          mine = pass.new.mine;
+          sides = record { left = L.left link.new; reads = L.read_count link.new; writes = L.write_count link.new };
           clock = clock.new;
         }) result }
+    ensures history { IsPrefix pass.old.seen pass.new.seen × IsHistory pass.new.limit pass.new.seen }
+    ensures places { HasOwnPlaces pass.new }
     ensures pass { pass.new ≡ record pass.old { seen = pass.new.seen; mine = pass.new.mine } }
     ensures held { KeepsSessions pass.old pass.new }
     ensures calls { L.calls link.old link.new }

@@ -1,6 +1,7 @@
 -- What the commands `sign` and `check` write, and the statuses that they end with.
 use Rattle.std.specs.Prelude.{ℕ, ◌≡◌, ◌⊎◌, ◌++◌, List, [], codes, decimal, Option, Ok, Err}
 use Rattle.sx_base.specs.Causes.{Rose}
+use Rattle.sx_base.specs.Sides.{Sides}
 use Rattle.sx_base.specs.Sink.{Writes, WritesPrefix}
 use Rattle.sx_http.specs.declared.heads.Head.{Head}
 use Rattle.sx_key.specs.Answers.{Checked}
@@ -35,12 +36,10 @@ abbrev pub verdict_status : Checked (Unit {0}) → ℕ
 verdict_status (Ok u) = 0
 verdict_status (Err e) = 8
 
--- an input and an output before or after a call
+-- an input and an output, with the sink itself, before or after a call
 pub record Streams (K : Type 0) : Type 0 where
-  pub left : Option (List ℕ)
-  pub reads : ℕ
+  pub sides : Sides
   pub out : K
-  pub writes : ℕ
 
 -- a text was written by puts alone and the command ended with its status; or a put failed, and a prefix of it was
 -- written; or memory ran out, and nothing was written
@@ -55,20 +54,20 @@ pub record AnswersHead {K : Type 0} (wrote : K → List ℕ → Type 0) (line : 
     (old new : Streams K)
     (result : ℕ) : Type 0 where
   pub head : Head
-  pub read : IsOneHead old.left new.left head
-  pub kept : new.reads ≡ old.reads
-  pub printed : Reports wrote (line head) (status head) old.out new.out old.writes new.writes result
+  pub read : IsOneHead old.sides.left new.sides.left head
+  pub kept : new.sides.reads ≡ old.sides.reads
+  pub printed : Reports wrote (line head) (status head) old.out new.out old.sides.writes new.sides.writes result
 
 -- why nothing was answered: the input isn't one head, a read failed, or memory ran out
 abbrev pub NotAnswered : {K : Type 0} → Streams K → Streams K → ℕ → Type 0
 NotAnswered old new result =
-    ((result ≡ 2) × IsNoHead old.left new.left × (new.reads ≡ old.reads))
-    ⊎ ((result ≡ 3) × TakesSome old.left new.left × Rose old.reads new.reads)
-    ⊎ ((result ≡ 5) × TakesSome old.left new.left × (new.reads ≡ old.reads))
+    ((result ≡ 2) × IsNoHead old.sides.left new.sides.left × (new.sides.reads ≡ old.sides.reads))
+    ⊎ ((result ≡ 3) × TakesSome old.sides.left new.sides.left × Rose old.sides.reads new.sides.reads)
+    ⊎ ((result ≡ 5) × TakesSome old.sides.left new.sides.left × (new.sides.reads ≡ old.sides.reads))
 
 -- nothing was written, for one of these reasons
 pub record AnswersNone {K : Type 0} (old new : Streams K) (result : ℕ) : Type 0 where
-  pub unwritten : (new.out ≡ old.out) × (new.writes ≡ old.writes)
+  pub unwritten : (new.out ≡ old.out) × (new.sides.writes ≡ old.sides.writes)
   pub cause : NotAnswered old new result
 
 -- a command over the one head that the input is
@@ -92,9 +91,9 @@ pub record RefusesCommand {K : Type 0} (wrote : K → List ℕ → Type 0) (word
     : Type 0 where
   pub unknown : IsUnknown words
   pub status_is : result ≡ 1
-  pub unread : (new.left ≡ old.left) × (new.reads ≡ old.reads)
-  pub written : (Writes wrote old.out new.out (codes "words refused\n") × (new.writes ≡ old.writes))
-      ⊎ (WritesPrefix wrote old.out new.out (codes "words refused\n") × Rose old.writes new.writes)
+  pub unread : (new.sides.left ≡ old.sides.left) × (new.sides.reads ≡ old.sides.reads)
+  pub written : (Writes wrote old.out new.out (codes "words refused\n") × (new.sides.writes ≡ old.sides.writes))
+      ⊎ (WritesPrefix wrote old.out new.out (codes "words refused\n") × Rose old.sides.writes new.sides.writes)
 
 -- memory ran out while the words were read: nothing was read or written
 pub record IsOutOfMemory {K : Type 0} (old new : Streams K) (result : ℕ) : Type 0 where

@@ -34,16 +34,12 @@ pub fn run_tool<S: Source, K: Sink>(
 ) -> u8
     ensures runs { RunsTool K.wrote (map string_bytes words.now)
         (record {
-          left = S.left input.old;
-          reads = S.read_count input.old;
+          sides = record { left = S.left input.old; reads = S.read_count input.old; writes = K.write_count out.old };
           out = out.old;
-          writes = K.write_count out.old;
         })
         (record {
-          left = S.left input.new;
-          reads = S.read_count input.new;
+          sides = record { left = S.left input.new; reads = S.read_count input.new; writes = K.write_count out.new };
           out = out.new;
-          writes = K.write_count out.new;
         }) result }
     ensures read_later { S.read_count input.old ≤ S.read_count input.new }
     ensures write_later { K.write_count out.old ≤ K.write_count out.new }
@@ -71,16 +67,12 @@ pub fn sign_input<S: Source, K: Sink>(
 ) -> u8
     ensures signs { Signs K.wrote account.now
         (record {
-          left = S.left input.old;
-          reads = S.read_count input.old;
+          sides = record { left = S.left input.old; reads = S.read_count input.old; writes = K.write_count out.old };
           out = out.old;
-          writes = K.write_count out.old;
         })
         (record {
-          left = S.left input.new;
-          reads = S.read_count input.new;
+          sides = record { left = S.left input.new; reads = S.read_count input.new; writes = K.write_count out.new };
           out = out.new;
-          writes = K.write_count out.new;
         }) result }
     ensures read_later { S.read_count input.old ≤ S.read_count input.new }
     ensures write_later { K.write_count out.old ≤ K.write_count out.new }
@@ -105,16 +97,12 @@ pub fn check_input<S: Source, K: Sink>(
 ) -> u8
     ensures checks { Checks K.wrote account.now now
         (record {
-          left = S.left input.old;
-          reads = S.read_count input.old;
+          sides = record { left = S.left input.old; reads = S.read_count input.old; writes = K.write_count out.old };
           out = out.old;
-          writes = K.write_count out.old;
         })
         (record {
-          left = S.left input.new;
-          reads = S.read_count input.new;
+          sides = record { left = S.left input.new; reads = S.read_count input.new; writes = K.write_count out.new };
           out = out.new;
-          writes = K.write_count out.new;
         }) result }
     ensures read_later { S.read_count input.old ≤ S.read_count input.new }
     ensures write_later { K.write_count out.old ≤ K.write_count out.new }

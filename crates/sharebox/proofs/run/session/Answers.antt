@@ -4,6 +4,5 @@ use Rattle.sharebox.proofs.run.session.Goals as goal
 
 pub returns-in-Ok-open : goal.returns-in-Ok-open
 returns-in-Ok-open g c = inr (served_own c.close.result _ (λ f. f.out) g.C.Clock.ticks c.args.share.now (g.K.Sink.wrote c.args.out.now) (g.K.Sink.wrote c.serve_streams-report.new.out) c.in-Ok.office c.now-now.result c.args.clock.now c.now-now.new.self c.serve_streams-report.new.clock
-    (g.S.Source.left c.args.input.now) (g.S.Source.left c.serve_streams-report.new.input) (g.S.Source.read_count c.args.input.now) (g.S.Source.read_count c.serve_streams-report.new.input) (g.K.Sink.write_count c.args.out.now) (g.K.Sink.write_count c.serve_streams-report.new.out)
-    c.open.new.main c.in-Ok-open.pass c.serve_streams-report.new.pass c.meet.new.into c.serve_streams-report.result c.status_after_close.result
-    c.now-now.ensures.step c.in-Ok-open.ensures.ok c.serve_streams-report.ensures.conversation c.serve_streams-report.ensures.pass c.meet.ensures.met c.close.ensures.all c.close.ensures.out (λ f h. h.0) c.status_after_close.ensures)
+    _ _ c.open.new.main c.in-Ok-open.pass c.serve_streams-report.new.pass c.meet.new.into c.serve_streams-report.result c.status_after_close.result
+    c.now-now.ensures.step c.in-Ok-open.ensures.ok c.serve_streams-report.ensures.conversation c.serve_streams-report.ensures.history c.serve_streams-report.ensures.pass c.meet.ensures.met c.close.ensures.book c.close.ensures.all c.close.ensures.out (λ f h. h.0) c.status_after_close.ensures)
