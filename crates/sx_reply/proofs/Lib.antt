@@ -1,0 +1,5 @@
+pub mod Gathering
+pub mod Escaping
+pub mod Pieces
+pub mod Lengths
+pub mod PageTexts

@@ -1,0 +1,19 @@
+use Rattle.std.proofs.Common.{◌++◌}
+use Rattle.std.specs.List.{flat_map}
+use Rattle.sx_reply.specs.Fields.{field_text}
+use Rattle.sx_reply.specs.Pages.{front_text, end_text}
+use Rattle.sx_base.specs.declared.fault.Failed.{Failed}
+use Rattle.sx_reply.proofs.Gathering.{gathers_more, gathers_stop}
+use Rattle.sx_reply.proofs.frame.gather_head.Goals as goal
+
+pub returns-in-Ok : goal.returns-in-Ok
+returns-in-Ok g c =
+    gathers_more {E = Failed} g.K.Sink.wrote g.K.Sink.write_count g.K.Sink.puts g.met.K.Sink.puts_more
+    c.args.sink.now c.gather_front.new.sink c.gather_end.new.sink c.args.gathered.now.items c.gather_front.new.gathered.items c.gather_end.new.gathered.items
+    (front_text c.args.frame.now.status c.args.frame.now.place c.args.frame.now.at ++ flat_map field_text c.args.headers.now) (end_text c.args.frame.now.length c.args.frame.now.close) c.gather_end.result c.in-Ok.ensures c.gather_end.ensures
+
+pub returns-in-Err : goal.returns-in-Err
+returns-in-Err g c =
+    gathers_stop {E = Failed} g.K.Sink.wrote g.K.Sink.write_count g.K.Sink.puts
+    c.args.sink.now c.gather_front.new.sink c.args.gathered.now.items c.gather_front.new.gathered.items c.gather_front.new.gathered.items
+    (front_text c.args.frame.now.status c.args.frame.now.place c.args.frame.now.at ++ flat_map field_text c.args.headers.now) (end_text c.args.frame.now.length c.args.frame.now.close) c.in-Err.failed c.in-Err.ensures

@@ -1,0 +1,13 @@
+use Rattle.std.proofs.Common.{◌≡◌, ◌-◌, ◌≤◌, length, drop}
+use Rattle.sx_base.specs.Printer.{PrintsFront}
+use Rattle.sx_base.specs.declared.fault.Failed.{Failed}
+use Rattle.sx_reply.proofs.view.print_by.Given as goal
+
+-- what is behind the place is left to print, and there is as much room as at first
+abbrev pub invariant-loop-at : goal.invariant-loop-at
+invariant-loop-at g l =
+    PrintsFront Failed g.K.Sink.wrote g.K.Sink.write_count g.K.Sink.puts l.fn.sink l.sink l.view (drop l.at l.view)
+    × (l.at ≤ length l.view) × (length l.piece ≡ length l.fn.piece)
+
+abbrev pub decreases-loop-at : goal.decreases-loop-at
+decreases-loop-at g l = length l.view - l.at

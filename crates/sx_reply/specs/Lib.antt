@@ -1,0 +1,9 @@
+pub mod Values
+pub mod Words
+pub mod Refusals
+pub mod Faults
+pub mod Headers
+pub mod Pages
+pub mod Fields
+pub mod PrintedReply
+pub mod Laws
