@@ -14,9 +14,7 @@ use sx_call::{CreateDirectory, CreateFile, Entry, Refusal, Reply, Shown, Stamp, 
 use sx_extent::Ranges;
 use sx_memory::NoMemory;
 use sx_names::Part;
-use sx_state::{
-    FactsChange, NodePlace, State, Where, file_checks, new_facts, shown_of, stamp_of,
-};
+use sx_state::{FactsChange, NodePlace, State, Where, file_checks, new_facts, shown_of, stamp_of};
 use sx_tree::{BodyChange, Facts, FileBody, Kind, Node};
 
 /// Makes a node of the next file id under a name in a directory, and shows it.

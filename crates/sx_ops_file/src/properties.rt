@@ -49,7 +49,11 @@ fn shown_with(now: &Stamp, resized: bool, node: &Node, call: &SetFileProperties)
     ensures { result ≡ shown_of (with_facts
         (with_properties now.now resized call.now.attributes call.now.created call.now.written) node.now) }
 {
-    let kept = if resized { now.changed } else { node.facts.written };
+    let kept = if resized {
+        now.changed
+    } else {
+        node.facts.written
+    };
     Shown {
         attributes: attributes_of(call).unwrap_or(node.facts.attributes),
         created: time_given(now.changed, node.facts.created, call.created),

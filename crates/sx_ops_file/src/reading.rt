@@ -74,10 +74,7 @@ pub fn get_directory_properties(
 
 /// Get Directory Metadata.
 #[tactic(auto, using(crate::proofs::Passed::unchecked_passes))]
-pub fn get_directory_metadata(
-    state: &State,
-    call: &GetDirectoryMetadata,
-) -> Result<Reply, NoMemory>
+pub fn get_directory_metadata(state: &State, call: &GetDirectoryMetadata) -> Result<Reply, NoMemory>
     ensures { IfOk result (λ reply. (state.now, reply) ≡ outcome state.now
         (at_place (directory_place state.now call.now.at call.now.snap) (get_directory_metadata state.now))) }
 {
