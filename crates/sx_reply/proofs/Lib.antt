@@ -2,4 +2,3 @@ pub mod Gathering
 pub mod Escaping
 pub mod Pieces
 pub mod Lengths
-pub mod PageTexts
