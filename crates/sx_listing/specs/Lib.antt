@@ -7,3 +7,4 @@ pub mod NamesReader
 pub mod Percent
 pub mod PercentReader
 pub mod Ranges
+pub mod Shares

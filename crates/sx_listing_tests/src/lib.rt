@@ -4,6 +4,8 @@
 #[cfg(test)]
 mod error;
 #[cfg(test)]
+mod handles;
+#[cfg(test)]
 mod made;
 #[cfg(test)]
 mod names;

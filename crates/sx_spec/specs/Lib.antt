@@ -6,7 +6,6 @@ pub mod Needs
 pub mod Places
 pub mod Checks
 pub mod Changes
-pub mod Bodies
 pub mod Pages
 pub mod ShareCalls
 pub mod FileCalls

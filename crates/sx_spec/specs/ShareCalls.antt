@@ -17,10 +17,10 @@ use Rattle.sx_call.specs.declared.replies.Reply.{Reply}
 use Rattle.sx_call.specs.declared.replies.Reply.TheVariants.{Stamped, Gone, Snapped, ShareFacts, Metas, Listed}
 use Rattle.sx_call.specs.declared.replies.Reply.TheVariants.{LeaseDone}
 use Rattle.sx_call.specs.declared.shown.Stamp.{Stamp}
+use Rattle.sx_listing.specs.Shares.{shares_text}
 use Rattle.sx_tree.specs.Tree.{new_nodes}
 use Rattle.sx_tree.specs.declared.share.Share.{Share}
 use Rattle.sx_spec.specs.Shares.{share_stamp, share_with_stamp, next_moment, with_snapshot, without_snapshot}
-use Rattle.sx_spec.specs.Bodies.{shares_text}
 use Rattle.sx_spec.specs.declared.checks.Checks.{Checks}
 use Rattle.sx_spec.specs.declared.checks.Limit.TheVariants.{TooManySnapshots, StandingSnapshots}
 use Rattle.sx_spec.specs.declared.checks.LeaseAsk.TheVariants.{Acts}
