@@ -99,8 +99,8 @@ is_reply_printed other = true
 
 -- whether a reply tells of a file
 abbrev pub is_of_file : Reply → Bool
-is_of_file (reply.FileFacts stamp length content facts lease meta) = true
-is_of_file (reply.FileBytes stamp part content facts lease meta) = true
+is_of_file (reply.FileFacts _ _ _ _ _ _) = true
+is_of_file (reply.FileBytes _ _ _ _ _ _) = true
 is_of_file other = false
 
 -- whether what was said is
