@@ -1,6 +1,6 @@
 -- What a worked example computes with: `unfolding account` lets `refl` compute the replies of a short history.
 use lib.Utf8.{encode}
-use Rattle.std.specs.Prelude.{chars}
+use Rattle.std.specs.Str.{chars}
 use Rattle.caseless.proofs.Computing.{caseless}
 use Rattle.sx_names.specs.Names.{fold}
 use Rattle.sx_extent.specs.Ranges.{is_marked, touches, covers, marks_by, blank, update, clear, resize, extend, write}
