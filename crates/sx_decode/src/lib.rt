@@ -1,0 +1,30 @@
+//! Readers of requests: exactly what each part of a request says, or exactly the first reason why it says nothing.
+#![tactic(auto)]
+
+pub mod asked;
+pub mod bodies;
+pub mod choice;
+pub mod contents;
+pub mod escapes;
+pub mod facts;
+pub mod file_fields;
+pub mod forms;
+pub mod handles;
+mod laws;
+pub mod leases;
+pub mod lookup;
+pub mod markers;
+pub mod metadata;
+pub mod moments;
+pub mod numbers;
+pub mod parameters;
+pub mod ranges;
+mod refusals;
+pub mod table;
+pub mod targets;
+pub mod times;
+mod unread;
+pub mod words;
+
+pub use laws::requests_are_determined;
+pub use unread::Unread;
