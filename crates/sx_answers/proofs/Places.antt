@@ -1,6 +1,5 @@
--- A place that isn't found is refused by a refusal that is printed. Which replies are printed is a parameter; what is
--- known
--- of it is that it takes the refusals that both doors have.
+-- A place that isn't found is refused by what is printed. Which replies are printed is a parameter, of which is known
+-- that it takes the refusals that both doors have.
 use Rattle.std.specs.Prelude.{◌≡◌, ℕ, Bool, true, false, cond, List, Option, Some, None, option_map, ok_or, Result}
 use Rattle.std.specs.Prelude.{Ok, Err}
 use Rattle.sx_guard.specs.Handle.{Handle}

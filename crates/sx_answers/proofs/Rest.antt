@@ -3,12 +3,12 @@ use Rattle.std.specs.Prelude.{◌≡◌, ℕ, ◌&&◌, ◌+◌, Bool, true, fal
 use Rattle.std.specs.Prelude.{None, option_map, find}
 use Rattle.std.proofs.Common.{refl}
 use Rattle.std.specs.List.{list_any}
+use Rattle.sx_lease.specs.Lease.{check_lease}
 use Rattle.sx_lease.specs.declared.lease.LeaseCheck.{LeaseCheck}
 use Rattle.sx_lease.specs.declared.lease.LeaseCheck.TheVariants as outcome
 use Rattle.sx_lease.specs.declared.lease.LeaseSay.{LeaseSay}
 use Rattle.sx_lease.specs.declared.lease.LeaseSay.TheVariants as answer
 use Rattle.sx_lease.specs.declared.lease.LeaseState.{LeaseState}
-use Rattle.sx_lease.specs.Lease.{check_lease}
 use Rattle.sx_names.specs.declared.attributes.Attributes.{Attributes}
 use Rattle.sx_names.specs.declared.meta_pair.MetaPair.{MetaPair}
 use Rattle.sx_call.specs.declared.calls.Call.{Call}
@@ -18,20 +18,20 @@ use Rattle.sx_call.specs.declared.refusals.Refusal.TheVariants as refusal
 use Rattle.sx_call.specs.declared.replies.Reply.TheVariants.{Refused}
 use Rattle.sx_call.specs.declared.shown.Stamp.{Stamp}
 use Rattle.sx_call.specs.declared.targets.Target.{Target}
-use Rattle.sx_reply.specs.PrintedReply.{is_reply_printed}
-use Rattle.sx_reply.specs.Refusals.{row_of}
-use Rattle.sx_spec.specs.declared.checks.Asks.{Asks}
-use Rattle.sx_spec.specs.declared.checks.Limit.TheVariants.{TooManySnapshots, StandingSnapshots}
-use Rattle.sx_spec.specs.Account.{Store, has_name}
-use Rattle.sx_spec.specs.Checks.{refusal_of_check, refusal_of_answer, lease_refusal, missing_lock, unless_snapshot}
-use Rattle.sx_spec.specs.Checks.{asks_nothing, unchecked, share_asks, file_checks, rest_asks, range_check, first_check, refuse_if}
-use Rattle.sx_spec.specs.FileCalls.{create_directory, create_file, create_file_in, delete_directory}
-use Rattle.sx_spec.specs.FileCalls.{lease_file}
-use Rattle.sx_spec.specs.Facts.{stamp_of}
-use Rattle.sx_spec.specs.declared.checks.LeaseAsk.TheVariants.{Passes}
 use Rattle.sx_tree.specs.declared.node.FileBody.{FileBody}
 use Rattle.sx_tree.specs.declared.share.Share.{Share}
 use Rattle.sx_tree.specs.Tree.{is_empty}
+use Rattle.sx_reply.specs.PrintedReply.{is_reply_printed}
+use Rattle.sx_reply.specs.Refusals.{row_of}
+use Rattle.sx_spec.specs.declared.checks.Asks.{Asks}
+use Rattle.sx_spec.specs.declared.checks.LeaseAsk.TheVariants.{Passes}
+use Rattle.sx_spec.specs.declared.checks.Limit.TheVariants.{TooManySnapshots, StandingSnapshots}
+use Rattle.sx_spec.specs.Account.{Store, has_name}
+use Rattle.sx_spec.specs.Facts.{stamp_of}
+use Rattle.sx_spec.specs.Checks.{refusal_of_check, refusal_of_answer, lease_refusal, missing_lock, unless_snapshot}
+use Rattle.sx_spec.specs.Checks.{asks_nothing, unchecked, share_asks, file_checks, rest_asks, range_check, first_check}
+use Rattle.sx_spec.specs.Checks.{refuse_if}
+use Rattle.sx_spec.specs.FileCalls.{create_directory, create_file, create_file_in, delete_directory, lease_file}
 use Rattle.sx_spec.specs.Needs.{lease_given, writes_under_lease}
 use Rattle.sx_spec.specs.Places.{Volume, NodePlace, FilePlace, Spot, Taken, Free, kept_volume}
 use Rattle.sx_spec.specs.Places.{share_at, vacancy, volume_in, volume_at, node_place, directory_place, file_at, file_place}
