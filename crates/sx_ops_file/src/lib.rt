@@ -1,11 +1,13 @@
 //! The REST calls on files and directories, each equal to what the definitions say of it at its place.
 #![tactic(auto)]
 
+mod listing;
 mod making;
 mod properties;
 mod reading;
 mod writing;
 
+pub use listing::list_directory;
 pub use making::{create_directory, create_file};
 pub use properties::set_file_properties;
 pub use reading::{
