@@ -1,11 +1,15 @@
 //! The REST calls on files and directories, each equal to what the definitions say of it at its place.
 #![tactic(auto)]
 
+mod bytes;
+mod listing;
 mod making;
 mod properties;
 mod reading;
 mod writing;
 
+pub use bytes::{get_file, list_ranges};
+pub use listing::list_directory;
 pub use making::{create_directory, create_file};
 pub use properties::set_file_properties;
 pub use reading::{
