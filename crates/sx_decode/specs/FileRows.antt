@@ -1,6 +1,6 @@
 -- The calls on files: what each reads, in order.
 use Rattle.std.specs.Prelude.{ℕ, Bool, true, false, List, codes, if◌then◌else◌, Option, Some, None, Ok, Err}
-use Rattle.sx_extent.specs.Ranges.{most_bytes}
+use Rattle.sx_extent.specs.Ranges.{Interval, most_bytes}
 use Rattle.sx_extent.specs.declared.piece.TheConstants.{PIECE_LIMIT}
 use Rattle.sx_http.specs.declared.heads.Header.{Header}
 use Rattle.sx_call.specs.declared.calls.Call.{Call}
@@ -8,6 +8,8 @@ use Rattle.sx_call.specs.declared.calls.Call.TheVariants as call
 use Rattle.sx_call.specs.declared.ranges.TheConstants.{OFFSET_LIMIT}
 use Rattle.sx_call.specs.declared.refusals.Syntax.TheVariants.{Header as BadHeader, NoCall}
 use Rattle.sx_call.specs.declared.targets.Target.{Target}
+use Rattle.sx_decode.specs.declared.file_facts.NewFacts.{NewFacts}
+use Rattle.sx_decode.specs.declared.file_facts.SetFacts.{SetFacts}
 use Rattle.sx_decode.specs.declared.forms.Row.{Row}
 use Rattle.sx_decode.specs.declared.forms.Row.TheVariants as row
 use Rattle.sx_decode.specs.Reading.{Reading, with_next}
@@ -47,25 +49,31 @@ length_if_given (Some text) = with_next (length_read text) (λ length. Ok (Some 
 unfoldable pub set_length : List Header → Reading (Option ℕ)
 set_length headers = with_next (one_header (codes "x-ms-content-length") headers) length_if_given
 
--- a new file of a length, with its content headers, attributes, times, metadata and lease id
-unfoldable pub new_file : Target → ℕ → List Header → Reading Call
-new_file at length headers =
-    with_next (content_of headers) (λ content.
+-- the attributes, times, metadata and lease id of a new file
+unfoldable pub new_facts : List Header → Reading NewFacts
+new_facts headers =
     with_next (new_attributes false headers) (λ attributes.
     with_next (new_time (codes "x-ms-file-creation-time") headers) (λ created.
     with_next (new_time (codes "x-ms-file-last-write-time") headers) (λ written.
     with_next (meta_of headers) (λ meta.
     with_next (lease_of headers) (λ lease.
+    Ok (record { attributes = attributes; created = created; written = written; meta = meta; lease = lease }))))))
+
+-- a new file of a length, with its content headers and facts
+unfoldable pub new_file : Target → ℕ → List Header → Reading Call
+new_file at length headers =
+    with_next (content_of headers) (λ content.
+    with_next (new_facts headers) (λ facts.
     Ok (call.CreateFile (record {
       at = at;
       length = length;
       content = content;
-      attributes = attributes;
-      created = created;
-      written = written;
-      meta = meta;
-      lease = lease;
-    }))))))))
+      attributes = facts.attributes;
+      created = facts.created;
+      written = facts.written;
+      meta = facts.meta;
+      lease = facts.lease;
+    }))))
 
 -- Create File
 unfoldable pub create_file : Target → List Header → Reading Call
@@ -90,23 +98,29 @@ get_file_properties target snap headers =
     with_next (scope_of snap headers) (λ scope.
     Ok (call.GetFileProperties (record { at = at; scope = scope }))))
 
--- the properties that are set beside a length
-unfoldable pub set_properties : Target → Option ℕ → List Header → Reading Call
-set_properties at length headers =
-    with_next (content_of headers) (λ content.
+-- the attributes, times and lease id that are set
+unfoldable pub set_facts : List Header → Reading SetFacts
+set_facts headers =
     with_next (set_attributes headers) (λ attributes.
     with_next (set_time (codes "x-ms-file-creation-time") headers) (λ created.
     with_next (set_time (codes "x-ms-file-last-write-time") headers) (λ written.
     with_next (lease_of headers) (λ lease.
+    Ok (record { attributes = attributes; created = created; written = written; lease = lease })))))
+
+-- the properties that are set beside a length
+unfoldable pub set_properties : Target → Option ℕ → List Header → Reading Call
+set_properties at length headers =
+    with_next (content_of headers) (λ content.
+    with_next (set_facts headers) (λ facts.
     Ok (call.SetFileProperties (record {
       at = at;
       length = length;
       content = content;
-      attributes = attributes;
-      created = created;
-      written = written;
-      lease = lease;
-    })))))))
+      attributes = facts.attributes;
+      created = facts.created;
+      written = facts.written;
+      lease = facts.lease;
+    }))))
 
 -- Set File Properties
 unfoldable pub set_file_properties : Target → List Header → Reading Call
@@ -130,16 +144,26 @@ set_file_metadata target headers =
     with_next (lease_of headers) (λ lease.
     Ok (call.SetFileMetadata (record { at = at; meta = meta; lease = lease })))))
 
--- Put Range with `update`, and the body that it writes
+-- Put Range with `update`, behind its interval and digest, and the body that it writes
+unfoldable pub update_with : Target → Interval → Option (List ℕ) → List Header → List ℕ → Reading Call
+update_with at interval digest headers body =
+    with_next (lease_of headers) (λ lease.
+    with_next (update_of interval digest body) (λ update.
+    Ok (call.UpdateRange (record { at = at; update = update; lease = lease }))))
+
+-- Put Range with `update`, behind its word
+unfoldable pub update_at : Target → List Header → List ℕ → Reading Call
+update_at at headers body =
+    with_next (interval_of PIECE_LIMIT headers) (λ interval.
+    with_next (digest_of (codes "content-md5") headers) (λ digest.
+    update_with at interval digest headers body))
+
+-- Put Range with `update`
 unfoldable pub update_range : Target → List Header → List ℕ → Reading Call
 update_range target headers body =
     with_next (below_root target) (λ at.
     with_next (needed_word (codes "x-ms-write") (codes "update") headers) (λ _.
-    with_next (interval_of PIECE_LIMIT headers) (λ interval.
-    with_next (digest_of (codes "content-md5") headers) (λ digest.
-    with_next (lease_of headers) (λ lease.
-    with_next (update_of interval digest body) (λ update.
-    Ok (call.UpdateRange (record { at = at; update = update; lease = lease }))))))))
+    update_at at headers body))
 
 -- Put Range with `clear`
 unfoldable pub clear_range : Target → List Header → Reading Call
