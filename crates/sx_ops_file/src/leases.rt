@@ -41,10 +41,8 @@ fn action_checks(done: (LeaseState, LeaseSay), opens: OpenAsk) -> Checks
 
 /// Lease File: the action is granted by the state of the file's lease, and leaves another. It takes no memory.
 pub fn lease_file(state: &mut State, entry: &Entry, call: &LeaseFile) -> Reply
-    ensures state { state.new ≡ (outcome state.old (at_place (file_place state.old call.now.at None)
-        (lease_file state.old call.now.action entry.now.fresh))).0 }
-    ensures reply { result ≡ (outcome state.old (at_place (file_place state.old call.now.at None)
-        (lease_file state.old call.now.action entry.now.fresh))).1 }
+    ensures { (state.new, result) ≡ outcome state.old (at_place (file_place state.old call.now.at None)
+        (lease_file state.old call.now.action entry.now.fresh)) }
 {
     let place = match state.file_place(call.at.target(), None) {
         Ok(place) => place,
