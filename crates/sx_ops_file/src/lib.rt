@@ -2,6 +2,7 @@
 #![tactic(auto)]
 
 mod bytes;
+mod leases;
 mod listing;
 mod making;
 mod properties;
@@ -9,6 +10,7 @@ mod reading;
 mod writing;
 
 pub use bytes::{get_file, list_ranges};
+pub use leases::lease_file;
 pub use listing::list_directory;
 pub use making::{create_directory, create_file};
 pub use properties::set_file_properties;
