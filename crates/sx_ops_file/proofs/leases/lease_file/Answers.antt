@@ -18,11 +18,12 @@ use Rattle.sx_tree.specs.declared.node.Node.{Node}
 use Rattle.sx_ops_file.proofs.leases.lease_file.Goals as goal
 
 -- what a call comes to at a place that was found, where no check refuses
-comes_to : (s : Store) (at : Result FilePlace Refusal) (p : FilePlace) (act : FilePlace → Act) (left : Store) (told : Reply)
-    → at ≡ Ok p → first_check s (act p).checks ≡ None → left ≡ (act p).store → told ≡ (act p).reply
+comes_to : (s : Store) (at : Result FilePlace Refusal) (p : FilePlace) (act : FilePlace → Act) (left : Store)
+    (told : Reply) → at ≡ Ok p → first_check s (act p).checks ≡ None → left ≡ (act p).store → told ≡ (act p).reply
     → (left, told) ≡ outcome s (at_place at act)
 comes_to s at p act left told found passed kept said =
-    let passes : outcome s (at_place (Ok p) act) ≡ ((act p).store, (act p).reply) = ap (unless_refused s (act p)) passed in
+    let passes : outcome s (at_place (Ok p) act) ≡ ((act p).store, (act p).reply) =
+    ap (unless_refused s (act p)) passed in
     ap (λ (t : Store). (t, told)) kept
     ∙ ap (λ (r : Reply). ((act p).store, r)) said
     ∙ sym (ap (λ (r : Result FilePlace Refusal). outcome s (at_place r act)) found ∙ passes)
