@@ -7,7 +7,7 @@ use Rattle.std.specs.List.{AllByRecursion, flat_map}
 use Rattle.sx_guard.specs.Handle.{Handle}
 use Rattle.sx_call.specs.declared.pages.HandleItem.{HandleItem}
 use Rattle.sx_call.specs.declared.pages.HandlesPage.{HandlesPage}
-use Rattle.sx_text.specs.Readers.{pair_at, closed_at, after, all_values_at, values_text}
+use Rattle.sx_text.specs.Readers.{pair_at, after, all_values_at, values_text}
 use Rattle.sx_text.specs.Numbers.{number_text, number_at, number_after, IsFrom}
 use Rattle.sx_text.specs.Escapes.{IsWhole, escaped_text, escaped_after}
 use Rattle.sx_text.proofs.Laws.{Reads, pair-reading, made-reading, end-reading, refits}

@@ -1,3 +1,4 @@
+pub mod AsciiTexts
 pub mod Bodies
 pub mod ErrorsRead
 pub mod HandlesRead
@@ -6,3 +7,4 @@ pub mod NamesRead
 pub mod PercentTexts
 pub mod Percents
 pub mod RangesRead
+pub mod SharesRead

@@ -1,8 +1,7 @@
 -- The body that lists a directory is read exactly.
-use Rattle.std.proofs.Common.{codes, ◌≡◌, ℕ, Bool, true, false, cond, List, [], ◌∷◌, ◌++◌, ◌⊎◌, refl, sym, ap, subst, ◌∙◌, arith, append_assoc, inl, inr}
+use Rattle.std.proofs.Common.{codes, ◌≡◌, ℕ, Bool, true, false, cond, List, [], ◌∷◌, ◌++◌, refl, sym, ap, ◌∙◌, arith, append_assoc, inl, inr}
 use Rattle.std.proofs.lemmas.Bool.{cases_eq}
 use Rattle.std.specs.List.{AllByRecursion, flat_map}
-use Rattle.std.specs.Str.{is_utf8}
 use Rattle.sx_names.specs.declared.page.NameItem.{NameItem}
 use Rattle.sx_names.specs.declared.page.NamesPage.{NamesPage}
 use Rattle.sx_text.specs.Readers.{pair_at, closed_at, all_values_at, values_text}

@@ -6,7 +6,7 @@ use Rattle.std.proofs.lemmas.Bool.Decides.{nat_tests}
 use Rattle.sx_text.specs.Escapes.{Chars, IsWhole}
 use Rattle.sx_listing.specs.Percent.{is_unreserved, upper_digit, percent_byte, percent_text}
 
-digit_low : (n : ℕ) → n < 16 → upper_digit n < 128
+pub digit_low : (n : ℕ) → n < 16 → upper_digit n < 128
 digit_low n lt = elim (cases_lt n 10) [
   | inl low ↦ rw (lt-ltb n 10 low) (omega (arith, low))
   | inr high ↦ rw (le-ltb n 10 high) (omega (arith, lt))

@@ -8,3 +8,4 @@ pub mod Percent
 pub mod PercentReader
 pub mod Ranges
 pub mod Shares
+pub mod SharesReader

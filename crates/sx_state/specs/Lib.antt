@@ -3,3 +3,4 @@ pub mod Spots
 pub mod Refused
 pub mod Changed
 pub mod Ids
+pub mod Named

@@ -6,6 +6,7 @@ mod checks;
 mod closing;
 mod facts;
 mod leases;
+mod listing;
 mod needs;
 mod opens;
 mod places;
