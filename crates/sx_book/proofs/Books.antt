@@ -17,13 +17,26 @@ use Rattle.sx_spec.proofs.Histories.{came_is, legal_fits, legal_more, replay_mor
 use Rattle.sx_spec.proofs.Live.{step_room}
 use Rattle.sx_spec.proofs.WholeRows.{step_whole}
 
--- an operation is the step, where the stamp is the entry's
-pub stepped : {E : Type 0} (a : Account) (e : Entry) (now : Stamp) (new : Store) (r : Result Reply E) → now ≡ stamp_in a e
-    → IfOk r (λ reply. (new, reply) ≡ outcome a.store (act_of a.store now e e.call))
+-- the stamp of a moment and a place
+abbrev stamp : ℕ → ℕ → Stamp
+stamp changed etag = record { changed = changed; etag = etag }
+
+-- an operation is the step, where its stamp has the entry's moment
+pub stepped : {E : Type 0} (a : Account) (e : Entry) (changed : ℕ) (new : Store) (r : Result Reply E) → changed ≡ e.at
+    → IfOk r (λ reply. (new, reply) ≡ outcome a.store (act_of a.store (record { changed = changed; etag = a.came + 1 }) e e.call))
     → IfOk r (λ reply. (account_of (a.came + 1) new, reply) ≡ step a e)
-stepped a e now new (Ok reply) is done =
-    ap (with_entry a) (subst (λ (n : Stamp). (new, reply) ≡ outcome a.store (act_of a.store n e e.call)) is done)
-stepped a e now new (Err x) is done = tt
+stepped a e changed new (Ok reply) is done =
+    let stamped : stamp changed (a.came + 1) ≡ stamp_in a e = λ j. stamp (is j) (a.came + 1) in
+    ap (with_entry a) (subst (λ (n : Stamp). (new, reply) ≡ outcome a.store (act_of a.store n e e.call)) stamped done)
+stepped a e changed new (Err x) is done = tt
+
+-- the account of what a book keeps is whole
+pub account_kept : (ns : List Noted) (came : ℕ) (old : Store) → came ≡ length ns → old ≡ (replay ns).store
+    → IsWhole (replay ns) → IsWhole (account_of came old)
+account_kept ns came old count is w =
+    let counted : came ≡ (replay ns).came = count ∙ sym (came_is ns) in
+    let same : account_of came old ≡ replay ns = λ j. account_of (counted j) (is j) in
+    subst IsWhole (sym same) w
 
 -- the moment of the last entry is the last one
 moment_at : (last : ℕ) (ns : List Noted) (n : Noted) → slice_get ns (length ns - 1) ≡ Some n

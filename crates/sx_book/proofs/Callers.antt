@@ -102,8 +102,6 @@ close_sessions : (o : Open) (s : Store) → (close o s).sessions ≡ s.sessions
 unfolding close take_open
 close_sessions o s = refl
 
-
-
 module _ (who q : ℕ) where
   abbrev caller : Store → Bool
   caller s = is_of_caller who (session_of s q)
@@ -177,94 +175,6 @@ module _ (who q : ℕ) where
       stays_then s (free_in place.1) _ (λ free. node_made s _ _ _))
 
   file_in_stays : (s : Store) (now : Stamp) (call : Call) (body : FileBody) (attributes : Attributes) (created written : Option ℕ) (meta : List MetaPair) (place : Volume × Spot) → Stays s (create_file_in s now call body attributes created written meta place)
-  file_in_stays s now call body attributes created written meta (volume, Free parent name) = node_made s _ _ _
-  file_in_stays s now call body attributes created written meta (volume, Taken node) =
-      stays_then s (file_at None (record { volume = volume; node = node })) _ (λ p. file_put s _ _ _ _)
-
-  file_stays : (s : Store) (now : Stamp) (call : Call) (at : Target) (body : FileBody) (attributes : Attributes) (created written : Option ℕ) (meta : List MetaPair) → Stays s (create_file s now call at body attributes created written meta)
-  file_stays s now call at body attributes created written meta = stays_then s (making_place s at) _ (λ place.
-      file_in_stays s now call body attributes created written meta place)
-
-  spot_stays : (s : Store) (now : Stamp) (session : ℕ) (call : Call) (access : Access) (mode : Mode) (dir on_close : Bool) (volume : Volume) (spot : Spot) → Stays s (open_spot s now session call access mode dir on_close volume spot)
-  spot_stays s now session call access mode dir on_close volume (Taken node) = stays_then s (of_kind dir node) _ (λ kind.
-      stays_then s (not_pending None node) _ (λ standing. open_put s _))
-  spot_stays s now session call access mode dir on_close volume (Free parent name) =
-      open_put (make_node volume.number name _ s) _ ∙ node_made s _ _ _
-
-  open_stays : (s : Store) (now : Stamp) (session : ℕ) (call : Call) (share : List ℕ) (path : List (List ℕ)) (access : Access) (mode : Mode) (how : How) (dir on_close : Bool) → Stays s (smb_open s now session call share path access mode how dir on_close)
-  open_stays s now session call share path access mode how dir on_close =
-      stays_then s (volume_at s share None) _ (λ volume.
-      stays_then s (spot_at volume.tree path) _ (λ spot.
-      stays_then s (spot_for how volume.tree spot) _ (λ wanted.
-      spot_stays s now session call access mode dir on_close volume wanted)))
-
-  stays : (s : Store) (now : Stamp) (call : Call) (body : FileBody) (attributes : Attributes) (created written : Option ℕ) (meta : List MetaPair) (place : Volume × Spot) → Stays s (create_file_in s now call body attributes created written meta place)
-  file_in_stays s now call body attributes created written meta (volume, Free parent name) = node_made s _ _ _
-  file_in_stays s now call body attributes created written meta (volume, Taken node) =
-      stays_then s (file_at None (record { volume = volume; node = node })) _ (λ p. file_put s _ _ _ _)
-
-  file_stays : (s : Store) (now : Stamp) (call : Call) (at : Target) (body : FileBody) (attributes : Attributes) (created written : Option ℕ) (meta : List MetaPair) → Stays s (create_file s now call at body attributes created written meta)
-  file_stays s now call at body attributes created written meta = stays_then s (making_place s at) _ (λ place.
-      file_in_stays s now call body attributes created written meta place)
-
-  spot_stays : (s : Store) (now : Stamp) (session : ℕ) (call : Call) (access : Access) (mode : Mode) (dir on_close : Bool) (volume : Volume) (spot : Spot) → Stays s (open_spot s now session call access mode dir on_close volume spot)
-  spot_stays s now session call access mode dir on_close volume (Taken node) = stays_then s (of_kind dir node) _ (λ kind.
-      stays_then s (not_pending None node) _ (λ standing. open_put s _))
-  spot_stays s now session call access mode dir on_close volume (Free parent name) =
-      open_put (make_node volume.number name _ s) _ ∙ node_made s _ _ _
-
-  open_stays : (s : Store) (now : Stamp) (session : ℕ) (call : Call) (share : List ℕ) (path : List (List ℕ)) (access : Access) (mode : Mode) (how : How) (dir on_close : Bool) → Stays s (smb_open s now session call share path access mode how dir on_close)
-  open_stays s now session call share path access mode how dir on_close =
-      stays_then s (volume_at s share None) _ (λ volume.
-      stays_then s (spot_at volume.tree path) _ (λ spot.
-      stays_then s (spot_for how volume.tree spot) _ (λ wanted.
-      spot_stays s now session call access mode dir on_close volume wanted)))
-
-  stays : (s : Store) (now : Stamp) (call : Call) (body : FileBody) (attributes : Attributes) (created written : Option ℕ) (meta : List MetaPair) (place : Volume × Spot) → Stays s (create_file_in s now call body attributes created written meta place)
-  file_in_stays s now call body attributes created written meta (volume, Free parent name) = node_made s _ _ _
-  file_in_stays s now call body attributes created written meta (volume, Taken node) =
-      stays_then s (file_at None (record { volume = volume; node = node })) _ (λ p. file_put s _ _ _ _)
-
-  file_stays : (s : Store) (now : Stamp) (call : Call) (at : Target) (body : FileBody) (attributes : Attributes) (created written : Option ℕ) (meta : List MetaPair) → Stays s (create_file s now call at body attributes created written meta)
-  file_stays s now call at body attributes created written meta = stays_then s (making_place s at) _ (λ place.
-      file_in_stays s now call body attributes created written meta place)
-
-  spot_stays : (s : Store) (now : Stamp) (session : ℕ) (call : Call) (access : Access) (mode : Mode) (dir on_close : Bool) (volume : Volume) (spot : Spot) → Stays s (open_spot s now session call access mode dir on_close volume spot)
-  spot_stays s now session call access mode dir on_close volume (Taken node) = stays_then s (of_kind dir node) _ (λ kind.
-      stays_then s (not_pending None node) _ (λ standing. open_put s _))
-  spot_stays s now session call access mode dir on_close volume (Free parent name) =
-      open_put (make_node volume.number name _ s) _ ∙ node_made s _ _ _
-
-  open_stays : (s : Store) (now : Stamp) (session : ℕ) (call : Call) (share : List ℕ) (path : List (List ℕ)) (access : Access) (mode : Mode) (how : How) (dir on_close : Bool) → Stays s (smb_open s now session call share path access mode how dir on_close)
-  open_stays s now session call share path access mode how dir on_close =
-      stays_then s (volume_at s share None) _ (λ volume.
-      stays_then s (spot_at volume.tree path) _ (λ spot.
-      stays_then s (spot_for how volume.tree spot) _ (λ wanted.
-      spot_stays s now session call access mode dir on_close volume wanted)))
-
-  stays : (s : Store) (now : Stamp) (call : Call) (body : FileBody) (attributes : Attributes) (created written : Option ℕ) (meta : List MetaPair) (place : Volume × Spot) → Stays s (create_file_in s now call body attributes created written meta place)
-  file_in_stays s now call body attributes created written meta (volume, Free parent name) = node_made s _ _ _
-  file_in_stays s now call body attributes created written meta (volume, Taken node) =
-      stays_then s (file_at None (record { volume = volume; node = node })) _ (λ p. file_put s _ _ _ _)
-
-  file_stays : (s : Store) (now : Stamp) (call : Call) (at : Target) (body : FileBody) (attributes : Attributes) (created written : Option ℕ) (meta : List MetaPair) → Stays s (create_file s now call at body attributes created written meta)
-  file_stays s now call at body attributes created written meta = stays_then s (making_place s at) _ (λ place.
-      file_in_stays s now call body attributes created written meta place)
-
-  spot_stays : (s : Store) (now : Stamp) (session : ℕ) (call : Call) (access : Access) (mode : Mode) (dir on_close : Bool) (volume : Volume) (spot : Spot) → Stays s (open_spot s now session call access mode dir on_close volume spot)
-  spot_stays s now session call access mode dir on_close volume (Taken node) = stays_then s (of_kind dir node) _ (λ kind.
-      stays_then s (not_pending None node) _ (λ standing. open_put s _))
-  spot_stays s now session call access mode dir on_close volume (Free parent name) =
-      open_put (make_node volume.number name _ s) _ ∙ node_made s _ _ _
-
-  open_stays : (s : Store) (now : Stamp) (session : ℕ) (call : Call) (share : List ℕ) (path : List (List ℕ)) (access : Access) (mode : Mode) (how : How) (dir on_close : Bool) → Stays s (smb_open s now session call share path access mode how dir on_close)
-  open_stays s now session call share path access mode how dir on_close =
-      stays_then s (volume_at s share None) _ (λ volume.
-      stays_then s (spot_at volume.tree path) _ (λ spot.
-      stays_then s (spot_for how volume.tree spot) _ (λ wanted.
-      spot_stays s now session call access mode dir on_close volume wanted)))
-
-  stays : (s : Store) (now : Stamp) (call : Call) (body : FileBody) (attributes : Attributes) (created written : Option ℕ) (meta : List MetaPair) (place : Volume × Spot) → Stays s (create_file_in s now call body attributes created written meta place)
   file_in_stays s now call body attributes created written meta (volume, Free parent name) = node_made s _ _ _
   file_in_stays s now call body attributes created written meta (volume, Taken node) =
       stays_then s (file_at None (record { volume = volume; node = node })) _ (λ p. file_put s _ _ _ _)

@@ -48,11 +48,11 @@ live_number started came who [] session all e = absurd (cc e)
 live_number started came who (l ∷ ls) session all e =
     elim (l.session == session) as (λ b. (l.session == session) ≡ b → is_of_caller who (cond b (Some l) (find (is_session session) ls)) ≡ true → (1 ≤ session) × (session ≤ started)) [
       | true ↦ λ same g.
-        let live = All-head (IsLive started came) l ls all in
-        let first = live.first in
-        let most = live.started in
-        let is : l.session ≡ session = grind (arith, nat_tests) in
-        (omega (arith, first, is), omega (arith, most, is))
+          let live = All-head (IsLive started came) l ls all in
+          let first = live.first in
+          let most = live.started in
+          let is : l.session ≡ session = grind (arith, nat_tests) in
+          (omega (arith, first, is), omega (arith, most, is))
       | false ↦ λ other g. live_number started came who ls session (All-tail (IsLive started came) l ls all) g
     ] refl e
 

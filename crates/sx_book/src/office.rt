@@ -26,8 +26,8 @@ use std::alloc::Global;
 use std::marker::Model;
 use std::sync::Wait;
 use sx_base::Items;
-use sx_memory::NoMemory;
 use sx_call::{Call, Noted, Reply, SmbReply, Start, Stop};
+use sx_memory::NoMemory;
 use sx_turn::{CloseFault, SeatFault, Turn};
 
 /// One book, and the turn in which its passes ask it. There are at most 64 passes, numbered 0 to 63.

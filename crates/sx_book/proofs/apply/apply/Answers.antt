@@ -1,6 +1,4 @@
-use Rattle.std.proofs.Common.{◌≡◌}
 use Rattle.sx_call.specs.Calls.{door_of}
-use Rattle.sx_spec.specs.Step.{stamp_in}
 use Rattle.sx_book.specs.History.{account_of}
 use Rattle.sx_book.proofs.Books.{stepped}
 use Rattle.sx_book.proofs.Wholes.{whole_fresh, whole_ids, whole_granted, whole_started, whole_made, whole_few, whole_order, whole_given, whole_session}
@@ -46,5 +44,4 @@ serve-requires-clause-session c =
 pub returns-clause-done : goal.returns-clause-done
 returns-clause-done c =
     let a = account_of c.args.came c.args.state.now in
-    let is : c.now.now ≡ stamp_in a c.args.entry.now = cc in
-    stepped a c.args.entry.now c.now.now c.serve.new.state c.serve.result is c.serve.ensures.ok
+    stepped a c.args.entry.now c.moment.result c.serve.new.state c.serve.result c.moment.ensures c.serve.ensures.ok

@@ -1,11 +1,12 @@
 use Rattle.std.proofs.Common.{◌≡◌, ℕ, ◌+◌, ◌≤◌, ◌++◌, ◌∷◌, [], List, length, ap, arith, sym, ◌∙◌, subst}
 use Rattle.sx_call.specs.declared.entries.Noted.{Noted}
-use Rattle.sx_spec.specs.Account.{Store}
+use Rattle.sx_call.specs.declared.replies.Reply.{Reply}
+use Rattle.sx_spec.specs.Account.{Store, Account}
 use Rattle.sx_call.specs.Calls.{door_of}
 use Rattle.sx_spec.specs.History.{MayCome, places_wanted, wants, last_moment}
-use Rattle.sx_spec.specs.Step.{replay}
+use Rattle.sx_spec.specs.Step.{replay, step}
 use Rattle.sx_book.specs.History.{History}
-use Rattle.sx_book.proofs.Books.{done_by, left_by, book_more}
+use Rattle.sx_book.proofs.Books.{account_kept, done_by, left_by, book_more}
 use Rattle.sx_book.proofs.book.Book.step.Goals as goal
 
 pub invariant_of-self-2 : goal.invariant_of-self-2
@@ -29,3 +30,17 @@ invariant_of-self-2 c =
       legal = rw items more.legal;
       whole = rw items more.whole;
     }
+
+pub apply-requires-clause-whole : goal.apply-requires-clause-whole
+apply-requires-clause-whole c =
+    let b = c.self.inside in
+    let count : c.count-entries.result ≡ length b.entries.items = c.count-entries.ensures ∙ ap length c.deref.ensures.value in
+    account_kept b.entries.items c.count-entries.result b.state count c.self.invariant.state c.self.invariant.whole
+
+pub returns-clause-reply : goal.returns-clause-reply
+returns-clause-reply c =
+    let b = c.self.inside in
+    let ns : List Noted = b.entries.items in
+    let count : c.count-entries.result ≡ length ns = c.count-entries.ensures ∙ ap length c.deref.ensures.value in
+    let done = done_by b.limit ns c.args.entry c.count-entries.result b.state c.apply.new.state c.in-Ok-apply.reply count c.self.invariant.state c.in-Ok-apply.ensures.done in
+    ap (λ (p : Account × Reply). p.1) done ∙ ap (λ (h : History). (step (replay h.entries) c.args.entry).1) c.self.view_is
