@@ -5,7 +5,7 @@ use Rattle.sx_base.specs.Sides.{Sides}
 use Rattle.sx_book.specs.declared.report.ConnEnd.{ConnEnd}
 use Rattle.sx_smb_door.specs.Asking.{DoorState, IsAnswered, IsServed}
 use Rattle.sx_smb_door.specs.Conversation.{AnsweredLine, Caller, Talk, answer_of, answers_to, line_bytes, no_tally, HasText, HasPrefix, HasBegun, BreaksAtAnswer, HasWritten, IsEnd, KeepsCounts, ServesLines}
-use Rattle.sx_smb_door.specs.Limits.{line_limit}
+use Rattle.sx_lines.specs.declared.line.TheConstants.{LINE_LIMIT}
 use Rattle.sx_smb_door.specs.LineReaderView.{LineReaderView}
 use Rattle.sx_smb_door.specs.Lines.{with_line_feed, IsOneLine}
 use Rattle.sx_smb_door.specs.Answer.{answer_text}
@@ -23,7 +23,7 @@ run_none {C} ticks w s a taken wrote none zero = (going_none ticks w s a taken n
 
 module _ {C : Type 0} (ticks : C → ℕ → C → Type 0) (w : Caller) (s0 s1 s2 : Option (List ℕ)) (a b c : DoorState C) (k1 k2 : ℕ) (at_first at_line at_answer at_last : List ℕ → Type 0) (line : List ℕ) (answer : LineAnswer) where
   -- one line more, whose answer was written
-  pub run_more : Run ticks w s0 s1 a b k1 at_first at_line → IsOneLine line → length line ≤ line_limit → Consumes s1 s2 (with_line_feed line) → k2 ≡ k1 + length line + 1
+  pub run_more : Run ticks w s0 s1 a b k1 at_first at_line → IsOneLine line → length line ≤ LINE_LIMIT → Consumes s1 s2 (with_line_feed line) → k2 ≡ k1 + length line + 1
       → IsAnswered ticks w line b c answer → ((m : List ℕ) → at_line m → at_answer m) → HasText at_answer at_last (answer_text answer) → Run ticks w s0 s2 a c k2 at_first at_last
   unfolding going_more
   run_more run one short taken count last keep text =
@@ -36,7 +36,7 @@ module _ {C : Type 0} (ticks : C → ℕ → C → Type 0) (w : Caller) (s0 s1 s
       (going_more ticks w s0 s1 s2 a b c k1 k2 line answer g one short taken count last, subst (HasText at_first at_last) now all)
 
   -- one line more, of whose answer a prefix was written
-  pub run_breaks : Run ticks w s0 s1 a b k1 at_first at_line → IsOneLine line → length line ≤ line_limit → Consumes s1 s2 (with_line_feed line) → k2 ≡ k1 + length line + 1
+  pub run_breaks : Run ticks w s0 s1 a b k1 at_first at_line → IsOneLine line → length line ≤ LINE_LIMIT → Consumes s1 s2 (with_line_feed line) → k2 ≡ k1 + length line + 1
       → IsAnswered ticks w line b c answer → ((m : List ℕ) → at_line m → at_answer m) → HasPrefix at_answer at_last (answer_text answer)
       → (going : Going ticks w s0 s2 a c k2) × BreaksAtAnswer w going.turns at_first at_last
   unfolding going_more

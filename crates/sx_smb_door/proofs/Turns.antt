@@ -15,7 +15,7 @@ use Rattle.sx_book.specs.Passes.{PassView, HoldsSession}
 use Rattle.sx_book.proofs.Calls.{asks_none, asks_join}
 use Rattle.sx_smb_door.specs.Asking.{DoorState, caller_in, IsAsked, IsAnswered}
 use Rattle.sx_smb_door.specs.Conversation.{LineOutcome, not_a_call, not_parsed, called, AnsweredLine, IsAnsweredLine, Caller, calls_in, calls_of, answer_of, no_tally, tally_with, tally_after, tally_after_all, line_bytes, HasText, HasPrefix, HasBegun}
-use Rattle.sx_smb_door.specs.Limits.{line_limit}
+use Rattle.sx_lines.specs.declared.line.TheConstants.{LINE_LIMIT}
 use Rattle.sx_smb_door.specs.Lines.{with_line_feed, IsOneLine}
 use Rattle.sx_smb_door.specs.Parse.{call_of}
 use Rattle.sx_smb_door.specs.declared.answer.LineAnswer.{LineAnswer}
@@ -61,7 +61,7 @@ same_caller session share p q os a = ap (λ (x : PassView). caller_in x session 
 
 -- the lines with one more
 unfoldable pub going_more : {C : Type 0} (ticks : C → ℕ → C → Type 0) (w : Caller) (s0 s1 s2 : Option (List ℕ)) (a b c : DoorState C) (k1 k2 : ℕ) (line : List ℕ) (answer : LineAnswer)
-    → (g : Going ticks w s0 s1 a b k1) → IsOneLine line → length line ≤ line_limit → Consumes s1 s2 (with_line_feed line) → k2 ≡ k1 + length line + 1
+    → (g : Going ticks w s0 s1 a b k1) → IsOneLine line → length line ≤ LINE_LIMIT → Consumes s1 s2 (with_line_feed line) → k2 ≡ k1 + length line + 1
     → IsAnswered ticks w line b c answer → Going ticks w s0 s2 a c k2
 going_more {C} ticks w s0 s1 s2 a b c k1 k2 line answer g one short taken count last =
     let t : AnsweredLine = record { line = line; outcome = last.outcome } in

@@ -1,15 +1,15 @@
 -- What a session asks of an office, line by line.
 use Rattle.std.specs.Prelude.{ℕ, ◌+◌, ◌≡◌, false, true, List, [], ◌∷◌, None, Some}
 use Rattle.sx_base.specs.Clock.{StepsThrough}
-use Rattle.sx_stage_call.specs.declared.call.Call.{Call}
-use Rattle.sx_stage_call.specs.declared.reply.Stop.{Stop}
-use Rattle.sx_stage_call.specs.declared.reply.Stop.TheVariants.{NoMemory, HistoryFull}
+use Rattle.sx_call.specs.declared.calls.Call.{Call}
+use Rattle.sx_call.specs.declared.refusals.Stop.{Stop}
+use Rattle.sx_call.specs.declared.refusals.Stop.TheVariants.{NoMemory, HistoryFull}
+use Rattle.sx_lines.specs.Answers.{is_printed}
+use Rattle.sx_lines.specs.declared.answer.LineAnswer.{LineAnswer}
 use Rattle.sx_book.specs.OneHistory.{Came, Asks, moments_of}
 use Rattle.sx_book.specs.Passes.{PassView, HoldsSession}
 use Rattle.sx_smb_door.specs.Conversation.{LineOutcome, Caller, Talk, Spells, calls_in, calls_of, call_with}
 use Rattle.sx_smb_door.specs.Conversation.{answer_to, answer_of, tally_with, tally_after, tally_after_all, no_tally}
-use Rattle.sx_smb_door.specs.Answer.{is_printed}
-use Rattle.sx_smb_door.specs.declared.answer.LineAnswer.{LineAnswer}
 use Rattle.sx_smb_door.specs.declared.tally.Tally.{Tally}
 
 -- a session's pass, its clock and its counts, before or after a call
@@ -19,8 +19,8 @@ pub record DoorState (C : Type 0) : Type 0 where
   pub tally : Tally
 
 -- the caller of a session through this pass
-abbrev pub caller_in : PassView → ℕ → List ℕ → Caller
-caller_in p session share = record { who = p.number; session = session; share = share; limit = p.limit }
+abbrev pub caller_in : PassView → ℕ → Caller
+caller_in p session = record { who = p.number; session = session; limit = p.limit }
 
 -- the counts after a call that was not appended
 abbrev pub tally_with_stop : Tally → Stop → Tally
@@ -38,7 +38,7 @@ pub record IsAsked {C : Type 0} (ticks : C → ℕ → C → Type 0) (session : 
   pub calls : Asks old.pass new.pass (call_with old.pass.number session call moment came ∷ [])
   pub told : ticks old.clock moment new.clock
   pub tallied : new.tally ≡ tally_with old.pass.limit (record old.tally { asked = old.tally.asked + 1 }) came
-  pub answer_is : answer ≡ answer_to old.pass.limit came
+  pub answer_is : answer ≡ answer_to old.pass.limit call came
   pub printed : is_printed answer ≡ true
   pub held : HoldsSession new.pass session
 
@@ -46,7 +46,7 @@ pub record IsAsked {C : Type 0} (ticks : C → ℕ → C → Type 0) (session : 
 pub record IsAnswered {C : Type 0} (ticks : C → ℕ → C → Type 0) (w : Caller) (line : List ℕ) (old new : DoorState C)
     (answer : LineAnswer) : Type 0 where
   pub outcome : LineOutcome
-  pub spells : Spells w.share line outcome
+  pub spells : Spells line outcome
   pub calls : Asks old.pass new.pass (calls_in w outcome)
   pub told : StepsThrough ticks old.clock (moments_of (calls_in w outcome)) new.clock
   pub tallied : new.tally ≡ tally_after w old.tally outcome
@@ -62,3 +62,9 @@ pub record IsServed {C : Type 0} (ticks : C → ℕ → C → Type 0) (w : Calle
   pub told : StepsThrough ticks old.clock (moments_of (calls_of w talk.turns)) new.clock
   pub tallied : new.tally ≡ tally_after_all w no_tally talk.turns
   pub taken_is : taken ≡ talk.given
+
+-- the answer to `quit` was written, and the session closed; or that write failed
+abbrev pub IsFarewell : (List ℕ → Type 0) → (List ℕ → Type 0) → ℕ → ℕ → List ℕ → ConnEnd → Type 0
+IsFarewell wrote wrote' writes writes' last finish.WriteFault = HasPrefix wrote wrote' last × Rose writes writes'
+IsFarewell wrote wrote' writes writes' last (finish.Closed None) = HasText wrote wrote' last × (writes' ≡ writes)
+IsFarewell wrote wrote' writes writes' last other = ⊥

@@ -1,24 +1,23 @@
 //! A session from its start to its end.
 ghost use Rattle.std.specs.Prelude.{◌≡◌, ◌+◌, ◌-◌, ◌<◌, ◌≤◌, ◌^◌, ◌⊎◌, [], true, ℕ, IfOk, length};
 ghost use mathlib.Core.List.{IsPrefix};
-ghost use Rattle.sx_stage_spec.specs.History.{IsHistory};
+ghost use Rattle.sx_call.specs.Calls.{door_of};
+ghost use Rattle.sx_call.specs.declared.doors.Door.TheVariants.{InSession};
+ghost use Rattle.sx_spec.specs.History.{IsHistory};
 ghost use Rattle.sx_book.specs.OneHistory.{history_of};
 ghost use Rattle.sx_book.specs.Passes.{HasOwnPlaces, HoldsSession, KeepsSessions};
 ghost use Rattle.sx_smb_door.specs.Asking.{caller_in, IsAsked, IsAnswered, IsServed, tally_with_stop};
 ghost use Rattle.sx_smb_door.specs.Conversation.{Conversation, ServesLines, Talk, no_tally, report_of, taken_at};
 ghost use Rattle.sx_smb_door.specs.Conversation.{end_of, unstarted_report};
-ghost use Rattle.sx_smb_door.specs.Parse.{is_session_call};
 
-use crate::answer::{LineAnswer, print_line};
 use crate::lines::{LineReader, NextLine};
-use crate::parse::call_of_line;
 use crate::tally::Tally;
 use std::alloc::Global;
 use std::sync::Wait;
 use sx_base::{Clock, Link};
-use sx_book::{ConnEnd, ConnReport, Full, Office, Pass, Session};
-use sx_names::ShareName;
-use sx_stage_call::{Call, Stop};
+use sx_book::{ConnEnd, ConnReport, Full, Office, Pass, Receipt, Session};
+use sx_call::{Call, Stop};
+use sx_lines::{Line, LineAnswer, LineFault, call_of_line, print_line};
 
 /// Counts a call that was not appended.
 fn note(tally: &mut Tally, stop: Stop)
@@ -40,6 +39,13 @@ fn note(tally: &mut Tally, stop: Stop)
     }
 }
 
+/// Whether a call locks bytes.
+fn is_lock(call: &Call) -> bool
+    ensures { result ≡ is_lock call.now }
+{
+    matches!(call, Call::SmbLock(_))
+}
+
 /// Asks the call of a line, and gives the answer.
 fn answer_call<R: Wait, C: Clock>(
     rt: &R,
@@ -52,19 +58,21 @@ fn answer_call<R: Wait, C: Clock>(
 ) -> LineAnswer
     requires own { pass.old.office ≡ office.now }
     requires held { HoldsSession pass.old session.now }
-    requires call { is_session_call call ≡ true }
+    requires call { door_of call ≡ InSession }
     requires asked { tally.old.asked + 1 < 2 ^ 64 }
     ensures keeps { KeepsSessions pass.old pass.new }
     ensures asked { IsAsked C.ticks session.now call
         (record { pass = pass.old; clock = clock.old; tally = tally.old })
         (record { pass = pass.new; clock = clock.new; tally = tally.new }) result }
 {
+    let locking = is_lock(&call);
     let now = clock.now();
     tally.asked += 1;
     match office.ask(rt, pass, now, 0, Some(session), call) {
         Ok(receipt) => LineAnswer::Core {
             place: receipt.place,
             reply: receipt.reply,
+            locking,
         },
         Err(stop) => {
             note(tally, stop);
@@ -73,33 +81,37 @@ fn answer_call<R: Wait, C: Clock>(
     }
 }
 
-/// Answers one line.
+/// Answers one line, or gives none where it is `quit`.
 fn answer_line<R: Wait, C: Clock>(
     alloc: Global,
     rt: &R,
     office: &Office,
     pass: &mut Pass,
     session: &Session,
-    share: &ShareName,
     clock: &mut C,
     tally: &mut Tally,
     line: &[u8],
-) -> LineAnswer
+) -> Option<LineAnswer>
     requires own { pass.old.office ≡ office.now }
     requires held { HoldsSession pass.old session.now }
     requires asked { tally.old.asked + 1 < 2 ^ 64 }
     ensures keeps { KeepsSessions pass.old pass.new }
-    ensures answered { IsAnswered C.ticks (caller_in pass.old session.now share.now) line.now
+    ensures answered { IfSome result (λ answer. IsAnswered C.ticks (caller_in pass.old session.now) line.now
         (record { pass = pass.old; clock = clock.old; tally = tally.old })
-        (record { pass = pass.new; clock = clock.new; tally = tally.new }) result }
+        (record { pass = pass.new; clock = clock.new; tally = tally.new }) answer) }
+    ensures quits { result ≡ None → (line_of line.now ≡ Ok Quit) × (pass.new ≡ pass.old) × (clock.new ≡ clock.old)
+        × (tally.new ≡ tally.old) }
 {
-    match call_of_line(alloc, share, line) {
-        Err(_) => {
-            tally.no_memory = true;
-            LineAnswer::Stop(Stop::NoMemory)
+    match call_of_line(alloc, line) {
+        Ok(Line::Ask(call)) => {
+            Some(answer_call(rt, office, pass, session, clock, tally, call))
         }
-        Ok(None) => LineAnswer::NotBuilt,
-        Ok(Some(call)) => answer_call(rt, office, pass, session, clock, tally, call),
+        Ok(Line::Quit) => None,
+        Err(LineFault::Syntax { at }) => Some(LineAnswer::Syntax { at }),
+        Err(LineFault::NoMemory) => {
+            tally.no_memory = true;
+            Some(LineAnswer::Stop(Stop::NoMemory))
+        }
     }
 }
 
@@ -110,7 +122,6 @@ fn serve_lines<R: Wait, L: Link, C: Clock>(
     office: &Office,
     pass: &mut Pass,
     session: &Session,
-    share: &ShareName,
     link: &mut L,
     clock: &mut C,
     reader: &mut LineReader,
@@ -121,10 +132,10 @@ fn serve_lines<R: Wait, L: Link, C: Clock>(
     requires reader { (reader.old.held ≡ []) × (reader.old.taken ≡ 0) }
     requires tally { tally.old ≡ no_tally }
     ensures served { (talk : Talk) × (talk.end ≡ result)
-        × IsServed C.ticks (caller_in pass.old session.now share.now) talk
+        × IsServed C.ticks (caller_in pass.old session.now) talk
         (record { pass = pass.old; clock = clock.old; tally = tally.old })
         (record { pass = pass.new; clock = clock.new; tally = tally.new }) reader.new.taken
-        × ServesLines (caller_in pass.old session.now share.now) reader.old.budget talk
+        × ServesLines (caller_in pass.old session.now) reader.old.budget [] talk
         (L.wrote link.old) (L.wrote link.new)
         (record { left = L.left link.old; reads = L.read_count link.old; writes = L.write_count link.old })
         (record { left = L.left link.new; reads = L.read_count link.new; writes = L.write_count link.new }) }
@@ -145,11 +156,13 @@ fn serve_lines<R: Wait, L: Link, C: Clock>(
                     office,
                     pass,
                     session,
-                    share,
                     clock,
                     tally,
                     line.as_slice(),
                 );
+                let Some(answer) = answer else {
+                    return ConnEnd::Closed { at: None };
+                };
                 match print_line(link, &answer) {
                     Ok(()) => {}
                     Err(_) => return ConnEnd::WriteFault,
@@ -218,8 +231,26 @@ fn refused(stop: Stop) -> ConnReport
     }
 }
 
-/// Serves one session on a share through an office: starts it, answers its lines until no more are given or the
-/// budget of bytes is spent, and ends it. Others may ask the office meanwhile.
+/// Writes the answer to `quit`, which is that of the session's End, and says how the session ended.
+fn say_farewell<L: Link>(link: &mut L, receipt: Receipt) -> ConnEnd
+    requires { is_printed (Core receipt.place receipt.reply false) ≡ true }
+    ensures said { IsFarewell (L.wrote link.old) (L.wrote link.new) (L.write_count link.old) (L.write_count link.new)
+        (answer_text (Core receipt.place receipt.reply false)) result }
+    ensures calls { L.calls link.old link.new }
+{
+    let answer = LineAnswer::Core {
+        place: receipt.place,
+        reply: receipt.reply,
+        locking: false,
+    };
+    match print_line(link, &answer) {
+        Ok(()) => ConnEnd::Closed { at: None },
+        Err(_) => ConnEnd::WriteFault,
+    }
+}
+
+/// Serves one session through an office: starts it, answers its lines until no more are given or the budget of bytes
+/// is spent, and ends it. Others may ask the office meanwhile. The line `quit` ends it and is answered by its End.
 ///
 /// Where the start is refused, no byte is read or written: the report's end is then `Full` or `NoMemory`.
 /// `WriteFault` and
@@ -230,7 +261,6 @@ pub fn serve_session<R: Wait, L: Link, C: Clock>(
     rt: &R,
     office: &Office,
     pass: &mut Pass,
-    share: &ShareName,
     link: &mut L,
     clock: &mut C,
     budget: u64,
@@ -240,7 +270,6 @@ pub fn serve_session<R: Wait, L: Link, C: Clock>(
         (record {
           who = pass.old.number;
           peer = L.peer_of link.old;
-          share = share.now;
           budget = budget;
           history = history_of pass.new;
           from = length pass.old.seen;
@@ -277,13 +306,16 @@ pub fn serve_session<R: Wait, L: Link, C: Clock>(
         office,
         pass,
         &session,
-        share,
         link,
         clock,
         &mut reader,
         &mut tally,
     );
     let now = clock.now();
-    let _receipt = office.end_session(rt, pass, now, session);
+    let receipt = office.end_session(rt, pass, now, session);
+    let finish = match finish {
+        ConnEnd::Closed { at: None } => say_farewell(link, receipt),
+        other => other,
+    };
     report(finish, reader.taken(), budget, tally)
 }
