@@ -8,7 +8,7 @@ use Rattle.sx_base.specs.Causes.{Rose}
 use Rattle.sx_base.specs.Clock.{StepsThrough}
 use Rattle.sx_base.specs.Sides.{Sides}
 use Rattle.sx_call.specs.declared.calls.Call.{Call}
-use Rattle.sx_call.specs.declared.calls.Call.TheVariants.{Start, End, SmbLock}
+use Rattle.sx_call.specs.declared.calls.Call.TheVariants.{End, SmbLock}
 use Rattle.sx_call.specs.declared.replies.Reply.{Reply}
 use Rattle.sx_call.specs.declared.replies.Reply.TheVariants.{Smb}
 use Rattle.sx_call.specs.declared.replies.SmbReply.TheVariants.{Started}
@@ -16,6 +16,7 @@ use Rattle.sx_call.specs.declared.refusals.Stop.{Stop as Stopped}
 use Rattle.sx_call.specs.declared.refusals.Stop.TheVariants as stop
 use Rattle.sx_book.specs.History.{History}
 use Rattle.sx_book.specs.OneHistory.{Came, appended, history_full, no_memory, Outcome, AreCallsIn, moments_of}
+use Rattle.sx_book.specs.Passes.{start_of}
 use Rattle.sx_book.specs.declared.report.Full.{Full}
 use Rattle.sx_book.specs.declared.report.ConnEnd.{ConnEnd}
 use Rattle.sx_book.specs.declared.report.ConnEnd.TheVariants as finish
@@ -23,7 +24,7 @@ use Rattle.sx_book.specs.declared.report.ConnReport.{ConnReport}
 use Rattle.sx_lines.specs.declared.line.TheConstants.{LINE_LIMIT}
 use Rattle.sx_lines.specs.declared.line.Line.TheVariants.{Ask, Quit}
 use Rattle.sx_lines.specs.Lines.{line_of}
-use Rattle.sx_lines.specs.Answers.{answer_text}
+use Rattle.sx_lines.specs.Answers.{answer_line}
 use Rattle.sx_lines.specs.declared.answer.LineAnswer.{LineAnswer}
 use Rattle.sx_lines.specs.declared.answer.LineAnswer.TheVariants.{Core, Syntax, Long, Stop}
 use Rattle.sx_smb_door.specs.Lines.{with_line_feed, IsOneLine, IsCutLine, BeginsUnended}
@@ -122,7 +123,7 @@ tally_after_all w tally (t ∷ ts) = tally_after_all w (tally_after w tally t.ou
 
 -- the printed answers to lines
 abbrev pub answers_to : Caller → List AnsweredLine → List ℕ
-answers_to w ts = flat_map (λ t. answer_text (answer_of w t.outcome)) ts
+answers_to w ts = flat_map (λ t. answer_line (answer_of w t.outcome)) ts
 
 -- the bytes of the lines, with their line feeds
 abbrev pub line_bytes : List AnsweredLine → List ℕ
@@ -208,13 +209,13 @@ pub record BreaksAtAnswer (w : Caller) (turns : List AnsweredLine) (wrote wrote'
   pub answered : List AnsweredLine
   pub last : AnsweredLine
   pub split : turns ≡ answered ++ last ∷ []
-  pub begun : HasBegun wrote wrote' (answers_to w answered) (answer_text (answer_of w last.outcome))
+  pub begun : HasBegun wrote wrote' (answers_to w answered) (answer_line (answer_of w last.outcome))
 
 -- a write failed at the refusal of a line over its limit: all answers were written, and a prefix of that
 abbrev pub BreaksAtRefusal : Caller → Talk → (List ℕ → Type 0) → (List ℕ → Type 0) → Type 0
 BreaksAtRefusal w t wrote wrote' =
     IfSome t.rest (BeginsUnended (LINE_LIMIT + 1)) × BeginsUnended (LINE_LIMIT + 1) t.held
-    × HasBegun wrote wrote' (answers_to w t.turns) (answer_text Long)
+    × HasBegun wrote wrote' (answers_to w t.turns) (answer_line Long)
 
 -- the answer at which a write failed: that to a line, or to a line over its limit; or that to `quit`, which is `last`
 abbrev pub Breaks : Option (List ℕ) → Caller → List ℕ → Talk → (List ℕ → Type 0) → (List ℕ → Type 0) → Type 0
@@ -226,7 +227,7 @@ Breaks (Some line) w last t wrote wrote' = HasBegun wrote wrote' (answers_to w t
 abbrev pub HasWritten : ConnEnd → Caller → List ℕ → Talk → (List ℕ → Type 0) → (List ℕ → Type 0) → Type 0
 HasWritten finish.WriteFault w last t wrote wrote' = Breaks t.quit w last t wrote wrote'
 HasWritten (finish.Closed (Some at)) w last t wrote wrote' =
-    HasText wrote wrote' (answers_to w t.turns ++ answer_text Long)
+    HasText wrote wrote' (answers_to w t.turns ++ answer_line Long)
 HasWritten (finish.Closed None) w last t wrote wrote' = HasText wrote wrote' (answers_to w t.turns ++ last)
 HasWritten end w last t wrote wrote' = HasText wrote wrote' (answers_to w t.turns)
 
@@ -294,7 +295,7 @@ caller_of_visit v session = record { who = v.who; session = session; limit = v.h
 
 -- the call that starts a session
 abbrev pub start_call : Visit → ℕ → Came → Outcome
-start_call v moment came = call_with v.who 0 (Start (record { peer = v.peer })) moment came
+start_call v moment came = call_with v.who 0 (start_of v.peer) moment came
 
 -- the Start of a session and its End: the moment, the place, and the reply, which for the Start is the session's number
 pub record Bounds : Type 0 where
@@ -314,7 +315,7 @@ session_calls v b turns =
 
 -- the answer to `quit`: that of the session's End
 abbrev pub farewell : Bounds → List ℕ
-farewell b = answer_text (Core b.last b.reply false)
+farewell b = answer_line (Core b.last b.reply false)
 
 -- a session that was started, answered its lines, and was ended: its calls in the history, the moments that the clock
 -- told for them, its lines, and its report

@@ -1,20 +1,24 @@
 //! A session from its start to its end.
-ghost use Rattle.std.specs.Prelude.{◌≡◌, ◌+◌, ◌-◌, ◌<◌, ◌≤◌, ◌^◌, ◌⊎◌, [], true, ℕ, IfOk, length};
+ghost use Rattle.std.specs.Prelude.{◌≡◌, ◌+◌, ◌<◌, ◌≤◌, ◌^◌, [], true, false, ℕ, MatchOption, length};
 ghost use mathlib.Core.List.{IsPrefix};
 ghost use Rattle.sx_call.specs.Calls.{door_of};
 ghost use Rattle.sx_call.specs.declared.doors.Door.TheVariants.{InSession};
 ghost use Rattle.sx_spec.specs.History.{IsHistory};
 ghost use Rattle.sx_book.specs.OneHistory.{history_of};
 ghost use Rattle.sx_book.specs.Passes.{HasOwnPlaces, HoldsSession, KeepsSessions};
-ghost use Rattle.sx_smb_door.specs.Asking.{caller_in, IsAsked, IsAnswered, IsServed, tally_with_stop};
-ghost use Rattle.sx_smb_door.specs.Conversation.{Conversation, ServesLines, Talk, no_tally, report_of, taken_at};
-ghost use Rattle.sx_smb_door.specs.Conversation.{end_of, unstarted_report};
+ghost use Rattle.sx_lines.specs.Answers.{answer_line, is_printed};
+ghost use Rattle.sx_lines.specs.declared.answer.LineAnswer.TheVariants.{Core};
+ghost use Rattle.sx_smb_door.specs.Asking.{caller_in, EndsAs, IsAsked, IsAnswered, IsFarewell, IsServed};
+ghost use Rattle.sx_smb_door.specs.Asking.{SaysQuit, tally_with_stop};
+ghost use Rattle.sx_smb_door.specs.Conversation.{Conversation, ServesLines, Talk, is_lock, no_tally, report_of};
+ghost use Rattle.sx_smb_door.specs.Conversation.{end_of, taken_at, unstarted_report};
 
 use crate::lines::{LineReader, NextLine};
 use crate::tally::Tally;
 use std::alloc::Global;
 use std::sync::Wait;
-use sx_base::{Clock, Link};
+use sx_answers::session_replies_are_printed;
+use sx_base::{Clock, Link, Sink};
 use sx_book::{ConnEnd, ConnReport, Full, Office, Pass, Receipt, Session};
 use sx_call::{Call, Stop};
 use sx_lines::{Line, LineAnswer, LineFault, call_of_line, print_line};
@@ -65,6 +69,8 @@ fn answer_call<R: Wait, C: Clock>(
         (record { pass = pass.old; clock = clock.old; tally = tally.old })
         (record { pass = pass.new; clock = clock.new; tally = tally.new }) result }
 {
+    // The reply to a session's call can be printed.
+    session_replies_are_printed();
     let locking = is_lock(&call);
     let now = clock.now();
     tally.asked += 1;
@@ -96,11 +102,12 @@ fn answer_line<R: Wait, C: Clock>(
     requires held { HoldsSession pass.old session.now }
     requires asked { tally.old.asked + 1 < 2 ^ 64 }
     ensures keeps { KeepsSessions pass.old pass.new }
-    ensures answered { IfSome result (λ answer. IsAnswered C.ticks (caller_in pass.old session.now) line.now
+    ensures answered { MatchOption result
+        (SaysQuit line.now (record { pass = pass.old; clock = clock.old; tally = tally.old })
+        (record { pass = pass.new; clock = clock.new; tally = tally.new }))
+        (λ answer. IsAnswered C.ticks (caller_in pass.old session.now) line.now
         (record { pass = pass.old; clock = clock.old; tally = tally.old })
         (record { pass = pass.new; clock = clock.new; tally = tally.new }) answer) }
-    ensures quits { result ≡ None → (line_of line.now ≡ Ok Quit) × (pass.new ≡ pass.old) × (clock.new ≡ clock.old)
-        × (tally.new ≡ tally.old) }
 {
     match call_of_line(alloc, line) {
         Ok(Line::Ask(call)) => {
@@ -115,7 +122,7 @@ fn answer_line<R: Wait, C: Clock>(
     }
 }
 
-/// Answers the lines of a link until no more are given, and says how they ended.
+/// Answers the lines of a link until no more are given, and says how they ended, or none where it was by `quit`.
 fn serve_lines<R: Wait, L: Link, C: Clock>(
     alloc: Global,
     rt: &R,
@@ -126,12 +133,12 @@ fn serve_lines<R: Wait, L: Link, C: Clock>(
     clock: &mut C,
     reader: &mut LineReader,
     tally: &mut Tally,
-) -> ConnEnd
+) -> Option<ConnEnd>
     requires own { pass.old.office ≡ office.now }
     requires held { HoldsSession pass.old session.now }
     requires reader { (reader.old.held ≡ []) × (reader.old.taken ≡ 0) }
     requires tally { tally.old ≡ no_tally }
-    ensures served { (talk : Talk) × (talk.end ≡ result)
+    ensures served { (talk : Talk) × EndsAs result talk
         × IsServed C.ticks (caller_in pass.old session.now) talk
         (record { pass = pass.old; clock = clock.old; tally = tally.old })
         (record { pass = pass.new; clock = clock.new; tally = tally.new }) reader.new.taken
@@ -161,22 +168,22 @@ fn serve_lines<R: Wait, L: Link, C: Clock>(
                     line.as_slice(),
                 );
                 let Some(answer) = answer else {
-                    return ConnEnd::Closed { at: None };
+                    return None;
                 };
                 match print_line(link, &answer) {
                     Ok(()) => {}
-                    Err(_) => return ConnEnd::WriteFault,
+                    Err(_) => return Some(ConnEnd::WriteFault),
                 }
             }
             NextLine::Long { at } => return match print_line(link, &LineAnswer::Long) {
-                Ok(()) => ConnEnd::Closed { at: Some(at) },
-                Err(_) => ConnEnd::WriteFault,
+                Ok(()) => Some(ConnEnd::Closed { at: Some(at) }),
+                Err(_) => Some(ConnEnd::WriteFault),
             },
-            NextLine::End => return ConnEnd::Ended,
-            NextLine::Cut { left } => return ConnEnd::Cut { left },
-            NextLine::Spent => return ConnEnd::Spent,
-            NextLine::ReadFault => return ConnEnd::ReadFault,
-            NextLine::NoMemory => return ConnEnd::NoMemory,
+            NextLine::End => return Some(ConnEnd::Ended),
+            NextLine::Cut { left } => return Some(ConnEnd::Cut { left }),
+            NextLine::Spent => return Some(ConnEnd::Spent),
+            NextLine::ReadFault => return Some(ConnEnd::ReadFault),
+            NextLine::NoMemory => return Some(ConnEnd::NoMemory),
         }
     }
 }
@@ -231,31 +238,34 @@ fn refused(stop: Stop) -> ConnReport
     }
 }
 
-/// Writes the answer to `quit`, which is that of the session's End, and says how the session ended.
-fn say_farewell<L: Link>(link: &mut L, receipt: Receipt) -> ConnEnd
+/// Writes the answer to `quit`, which is that of the session's End, where the lines ended by it, and says how the
+/// session ended.
+fn say_farewell<K: Sink>(sink: &mut K, lines: Option<ConnEnd>, receipt: Receipt) -> ConnEnd
     requires { is_printed (Core receipt.place receipt.reply false) ≡ true }
-    ensures said { IsFarewell (L.wrote link.old) (L.wrote link.new) (L.write_count link.old) (L.write_count link.new)
-        (answer_text (Core receipt.place receipt.reply false)) result }
-    ensures calls { L.calls link.old link.new }
+    ensures said { IsFarewell K.wrote K.write_count sink.old sink.new
+        (answer_line (Core receipt.place receipt.reply false)) lines result }
+    ensures step { K.puts sink.old sink.new }
 {
     let answer = LineAnswer::Core {
         place: receipt.place,
         reply: receipt.reply,
         locking: false,
     };
-    match print_line(link, &answer) {
-        Ok(()) => ConnEnd::Closed { at: None },
-        Err(_) => ConnEnd::WriteFault,
+    match lines {
+        Some(end) => end,
+        None => match print_line(sink, &answer) {
+            Ok(()) => ConnEnd::Closed { at: None },
+            Err(_) => ConnEnd::WriteFault,
+        },
     }
 }
 
 /// Serves one session through an office: starts it, answers its lines until no more are given or the budget of bytes
 /// is spent, and ends it. Others may ask the office meanwhile. The line `quit` ends it and is answered by its End.
 ///
-/// Where the start is refused, no byte is read or written: the report's end is then `Full` or `NoMemory`.
-/// `WriteFault` and
-/// `ReadFault` come only where the link's counts of failures rose. Every session that was started is ended, and the
-/// pass goes on holding the sessions that it held.
+/// Where the start is refused, no byte is read or written: the report's end is then `Full` or `NoMemory`. `WriteFault`
+/// and `ReadFault` come only where the link's counts of failures rose. Every session that was started is ended, and
+/// only where `quit` ended it is the End's answer written. The pass goes on holding the sessions that it held.
 pub fn serve_session<R: Wait, L: Link, C: Clock>(
     alloc: Global,
     rt: &R,
@@ -300,7 +310,7 @@ pub fn serve_session<R: Wait, L: Link, C: Clock>(
         full: None,
         no_memory: false,
     };
-    let finish = serve_lines(
+    let lines = serve_lines(
         alloc,
         rt,
         office,
@@ -311,11 +321,10 @@ pub fn serve_session<R: Wait, L: Link, C: Clock>(
         &mut reader,
         &mut tally,
     );
+    // The reply to an End can be printed.
+    session_replies_are_printed();
     let now = clock.now();
     let receipt = office.end_session(rt, pass, now, session);
-    let finish = match finish {
-        ConnEnd::Closed { at: None } => say_farewell(link, receipt),
-        other => other,
-    };
-    report(finish, reader.taken(), budget, tally)
+    let end = say_farewell(link, lines, receipt);
+    report(end, reader.taken(), budget, tally)
 }
