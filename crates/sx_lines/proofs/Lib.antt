@@ -1,2 +1,3 @@
 pub mod DecimalDigits
+pub mod HexDigits
 pub mod Parts

@@ -1,5 +1,7 @@
+pub mod Answers
 pub mod Fields
 pub mod Lines
 pub mod Opens
+pub mod Printed
 pub mod Reading
 pub mod Words
