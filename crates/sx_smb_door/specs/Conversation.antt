@@ -134,8 +134,8 @@ abbrev pub quit_bytes : Option (List ℕ) → List ℕ
 quit_bytes None = []
 quit_bytes (Some line) = with_line_feed line
 
--- what was said in a session: the lines that were answered, the line `quit`, if that ended it, how many bytes they have,
--- how they ended, what the link had left behind them, and which bytes of that were taken and not given
+-- what was said in a session: the lines that were answered, the line `quit`, if that ended it, how many bytes they
+-- have, how they ended, what the link had left behind them, and which bytes of that were taken and not given
 pub record Talk : Type 0 where
   pub turns : List AnsweredLine
   pub quit : Option (List ℕ)
@@ -231,8 +231,8 @@ HasWritten (finish.Closed (Some at)) w last t wrote wrote' =
 HasWritten (finish.Closed None) w last t wrote wrote' = HasText wrote wrote' (answers_to w t.turns ++ last)
 HasWritten end w last t wrote wrote' = HasText wrote wrote' (answers_to w t.turns)
 
--- the lines of a session of this caller: what they spell, what was taken off the link, what was written, with the answer
--- to `quit`, and how they ended
+-- the lines of a session of this caller: what they spell, what was taken off the link, what was written, with the
+-- answer to `quit`, and how they ended
 pub record ServesLines (w : Caller) (budget : ℕ) (last : List ℕ) (t : Talk) (wrote wrote' : List ℕ → Type 0)
     (old new : Sides)
     : Type 0 where
@@ -275,8 +275,8 @@ end_of stop.NoMemory = finish.NoMemory
 end_of (stop.HistoryFull entries sessions limit) =
     finish.Full (record { entries = entries; sessions = sessions; limit = limit })
 
--- a session that is served: by which caller, for which peer, with which budget of bytes; the history at its end, and how
--- many entries of that had been seen as it began
+-- a session that is served: by which caller, for which peer, with which budget of bytes; the history at its end, and
+-- how many entries of that had been seen as it began
 pub record Visit : Type 0 where
   pub who : ℕ
   pub peer : ℕ

@@ -240,15 +240,15 @@ fn refused(stop: Stop) -> ConnReport
 
 /// Writes the answer to `quit`, which is that of the session's End, where the lines ended by it, and says how the
 /// session ended.
-fn say_farewell<K: Sink>(sink: &mut K, lines: Option<ConnEnd>, receipt: Receipt) -> ConnEnd
-    requires { is_printed (Core receipt.place receipt.reply false) ≡ true }
+fn say_farewell<K: Sink>(sink: &mut K, lines: Option<ConnEnd>, ended: Receipt) -> ConnEnd
+    requires { is_printed (Core ended.place ended.reply false) ≡ true }
     ensures said { IsFarewell K.wrote K.write_count sink.old sink.new
-        (answer_line (Core receipt.place receipt.reply false)) lines result }
+        (answer_line (Core ended.place ended.reply false)) lines result }
     ensures step { K.puts sink.old sink.new }
 {
     let answer = LineAnswer::Core {
-        place: receipt.place,
-        reply: receipt.reply,
+        place: ended.place,
+        reply: ended.reply,
         locking: false,
     };
     match lines {
