@@ -28,6 +28,7 @@ pub mod ranges;
 mod refusals;
 pub mod share_fields;
 mod share_rows;
+mod spelling;
 pub mod table;
 pub mod targets;
 pub mod times;
@@ -35,4 +36,5 @@ mod unread;
 pub mod words;
 
 pub use laws::requests_are_determined;
+pub use spelling::call_of;
 pub use unread::Unread;

@@ -13,6 +13,6 @@ pub use bytes::{smb_read, smb_resize, smb_write};
 pub use closing::{smb_close, smb_dispose};
 pub use locking::{smb_lock, smb_unlock};
 pub use opening::smb_open;
-pub use sessions::smb_start;
+pub use sessions::{smb_end, smb_start};
 pub use showing::{smb_list, smb_stat};
 pub use sx_memory::NoMemory;

@@ -1,6 +1,7 @@
-//! The call that starts a session.
-ghost use Rattle.std.specs.Prelude.{◌≡◌, ◌+◌, ◌<◌, ◌^◌, IfOk, Ok, OnErr};
-ghost use Rattle.sx_spec.specs.SessionCalls.{start};
+//! The calls that start and end a session.
+ghost use Rattle.std.specs.Prelude.{◌≡◌, ◌+◌, ◌<◌, ◌^◌, AllPairs, IfOk, Ok, OnErr, length, true};
+ghost use Rattle.sx_guard.specs.Handle.{handle_before};
+ghost use Rattle.sx_spec.specs.SessionCalls.{end_session, start};
 ghost use Rattle.sx_spec.specs.Step.{outcome};
 
 use sx_call::{Entry, Reply, SmbReply, Start};
@@ -18,4 +19,18 @@ pub fn smb_start(state: &mut State, entry: &Entry, call: &Start) -> Result<Reply
     let session = state.started() + 1;
     state.put_session(entry.who, call.peer)?;
     Ok(Reply::Smb(SmbReply::Started { session }))
+}
+
+/// End: it closes the session's handles in order of handle, and the session is no longer live. It takes no memory.
+#[tactic(auto, using(crate::proofs::Passed::unchecked_passes))]
+pub fn smb_end(state: &mut State, entry: &Entry) -> Reply
+    requires order { AllPairs (λ o q. handle_before o.handle q.handle ≡ true) state.old.opens }
+    requires few { length state.old.opens < 2 ^ 32 }
+    ensures { (state.new, result) ≡ outcome state.old (Ok (end_session state.old entry.now.session)) }
+{
+    let closed = state.close_held(entry.session);
+    state.take_session(entry.session);
+    Reply::Smb(SmbReply::Ended {
+        closed: closed as u32,
+    })
 }

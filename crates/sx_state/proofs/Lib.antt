@@ -1,3 +1,4 @@
 pub mod Changes
 pub mod Rest
 pub mod Named
+pub mod HeldLaws

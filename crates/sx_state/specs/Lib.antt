@@ -4,3 +4,4 @@ pub mod Refused
 pub mod Changed
 pub mod Ids
 pub mod Named
+pub mod Holding

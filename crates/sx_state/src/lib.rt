@@ -5,6 +5,7 @@ mod asks;
 mod checks;
 mod closing;
 mod facts;
+mod holding;
 mod leases;
 mod listing;
 mod needs;
