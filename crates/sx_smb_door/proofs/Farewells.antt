@@ -97,27 +97,27 @@ module _ {K : Type 0} (wrote : K → List ℕ → Type 0) (left : K → Option (
 
   pub parted : (lines : Option ConnEnd) (end : ConnEnd) → EndsAs lines t → ServesLines w budget [] t at_first (wrote k1) old (sides_at k1) → IsFarewell wrote writes k1 k2 last lines end → left k2 ≡ left k1 → reads k2 ≡ reads k1
       → ServesLines w budget last (ending t end) at_first (wrote k2) old (sides_at k2)
-  parted (Some e) end as s said l r =
-      let same : t.end ≡ end = as.0 ∙ sym said.0 in
+  parted (Some e) end ends s said l r =
+      let same : t.end ≡ end = ends.0 ∙ sym said.0 in
       subst (λ (k : K). ServesLines w budget last (ending t end) at_first (wrote k) old (sides_at k)) (sym said.1)
-      (subst (λ (x : ConnEnd). ServesLines w budget last (ending t x) at_first (wrote k1) old (sides_at k1)) same (silent e as.0 as.1 s))
-  parted None (finish.Closed None) as s said l r =
+      (subst (λ (x : ConnEnd). ServesLines w budget last (ending t x) at_first (wrote k1) old (sides_at k1)) same (silent e ends.0 ends.1 s))
+  parted None (finish.Closed None) ends s said l r =
       let spoken : List ℕ = answers_to w t.turns in
-      let text : HasText at_first (wrote k1) (spoken ++ []) = subst (λ (e : ConnEnd). HasWritten e w [] t at_first (wrote k1)) as s.answers in
-      let counts : (reads k1 ≡ old.reads) × (writes k1 ≡ old.writes) = subst (λ (e : ConnEnd). KeepsCounts e old (sides_at k1)) as s.counts in
+      let text : HasText at_first (wrote k1) (spoken ++ []) = subst (λ (e : ConnEnd). HasWritten e w [] t at_first (wrote k1)) ends s.answers in
+      let counts : (reads k1 ≡ old.reads) × (writes k1 ≡ old.writes) = subst (λ (e : ConnEnd). KeepsCounts e old (sides_at k1)) ends s.counts in
       record {
         lines = s.lines;
         bytes = takes_kept budget t (finish.Closed None) old (sides_at k1) (sides_at k2) l s.bytes;
         answers = text_more at_first (wrote k1) (wrote k2) spoken last (subst (HasText at_first (wrote k1)) (append-nil spoken) text) said.0;
         end = tt;
-        quits = subst (λ (e : ConnEnd). EndsByQuit e t.quit) as s.quits;
+        quits = subst (λ (e : ConnEnd). EndsByQuit e t.quit) ends s.quits;
         counts = (r ∙ counts.0, said.1 ∙ counts.1);
       }
-  parted None finish.WriteFault as s said l r =
+  parted None finish.WriteFault ends s said l r =
       let spoken : List ℕ = answers_to w t.turns in
-      let text : HasText at_first (wrote k1) (spoken ++ []) = subst (λ (e : ConnEnd). HasWritten e w [] t at_first (wrote k1)) as s.answers in
-      let counts : (reads k1 ≡ old.reads) × (writes k1 ≡ old.writes) = subst (λ (e : ConnEnd). KeepsCounts e old (sides_at k1)) as s.counts in
-      let quits : EndsByQuit (finish.Closed None) t.quit = subst (λ (e : ConnEnd). EndsByQuit e t.quit) as s.quits in
+      let text : HasText at_first (wrote k1) (spoken ++ []) = subst (λ (e : ConnEnd). HasWritten e w [] t at_first (wrote k1)) ends s.answers in
+      let counts : (reads k1 ≡ old.reads) × (writes k1 ≡ old.writes) = subst (λ (e : ConnEnd). KeepsCounts e old (sides_at k1)) ends s.counts in
+      let quits : EndsByQuit (finish.Closed None) t.quit = subst (λ (e : ConnEnd). EndsByQuit e t.quit) ends s.quits in
       record {
         lines = s.lines;
         bytes = takes_kept budget t finish.WriteFault old (sides_at k1) (sides_at k2) l s.bytes;
@@ -126,13 +126,13 @@ module _ {K : Type 0} (wrote : K → List ℕ → Type 0) (left : K → Option (
         quits = fault_there t.quit quits;
         counts = r ∙ counts.0;
       }
-  parted None finish.Ended as s said l r = absurd said
-  parted None (finish.Closed (Some at)) as s said l r = absurd said
-  parted None (finish.Cut n) as s said l r = absurd said
-  parted None finish.Spent as s said l r = absurd said
-  parted None finish.ReadFault as s said l r = absurd said
-  parted None (finish.Full full) as s said l r = absurd said
-  parted None finish.NoMemory as s said l r = absurd said
+  parted None finish.Ended ends s said l r = absurd said
+  parted None (finish.Closed (Some at)) ends s said l r = absurd said
+  parted None (finish.Cut n) ends s said l r = absurd said
+  parted None finish.Spent ends s said l r = absurd said
+  parted None finish.ReadFault ends s said l r = absurd said
+  parted None (finish.Full full) ends s said l r = absurd said
+  parted None finish.NoMemory ends s said l r = absurd said
 
 -- the bytes that are reported fit their type, as the budget does
 pub report_fits : (end : ConnEnd) (budget taken : ℕ) (t : Talk) (old new : Sides) → IsEnd end budget t old new → taken ≡ t.given → taken ≤ budget → budget < 2 ^ 64 → taken_at end taken budget < 2 ^ 64

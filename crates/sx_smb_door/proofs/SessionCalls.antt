@@ -10,9 +10,6 @@ use Rattle.sx_lines.specs.Reading.{Reading, with_next}
 use Rattle.sx_lines.specs.Words.{next_word, behind_next, judged, end_of, without_return, first_word, behind_first}
 use Rattle.sx_lines.specs.declared.line.Line.{Line}
 use Rattle.sx_lines.specs.declared.line.Line.TheVariants.{Ask, Quit}
-use Rattle.sx_lines.specs.declared.verb.Verb.{Verb}
-use Rattle.sx_lines.specs.declared.verb.Verb.TheVariants.{Open, Close, Read, Write, Resize, Lock, Unlock}
-use Rattle.sx_lines.specs.declared.verb.Verb.TheVariants.{Stat, List as Lists, Dispose}
 
 -- a call that is read, if one is, stands in a session
 abbrev pub StandsInSession : Reading Call → Type 0
@@ -91,22 +88,25 @@ opens share =
     let doc = behind_next kind in
     behind (judged share (share_of (next_word share))) _ (λ s. behind (judged path (path_of (next_word path))) _ (λ p. behind (judged access (rights_of (next_word access))) _ (λ a. behind (judged mode (mode_of (next_word mode))) _ (λ m. behind (judged how (how_of (next_word how))) _ (λ h. behind (judged kind (choice_of (codes "dir") (codes "file") (next_word kind))) _ (λ d. behind (rights_in a doc) _ (λ r. behind (end_of (behind_next doc)) _ (λ u. refl))))))))
 
-says : (verb : Verb) (rest : List ℕ) → StandsInSession (call_said verb rest)
-unfolding call_said
-says Open rest = opens rest
-says Close rest = closes rest
-says Read rest = reads rest
-says Write rest = writes rest
-says Resize rest = resizes rest
-says Lock rest = locks rest
-says Unlock rest = unlocks rest
-says Stat rest = stats rest
-says Lists rest = lists rest
-says Dispose rest = disposes rest
+-- whatever is chosen
+pick : {A : Type 0} (P : A → Type 0) (b : Bool) (x y : A) → P x → P y → P (cond b x y)
+pick P true x y h k = h
+pick P false x y h k = k
 
-says_by : (text : List ℕ) (verb : Option Verb) → StandsInSession (call_by text verb)
-says_by text None = tt
-says_by text (Some verb) = says verb (behind_first text)
+says_by : (text word : List ℕ) → StandsInSession (call_by text (verb_of word))
+unfolding verb_of call_said
+says_by text word =
+    let rest = behind_first text in
+    pick (λ v. StandsInSession (call_by text v)) (bytes_eq word (codes "open")) _ _ (opens rest)
+    (pick (λ v. StandsInSession (call_by text v)) (bytes_eq word (codes "close")) _ _ (closes rest)
+    (pick (λ v. StandsInSession (call_by text v)) (bytes_eq word (codes "read")) _ _ (reads rest)
+    (pick (λ v. StandsInSession (call_by text v)) (bytes_eq word (codes "write")) _ _ (writes rest)
+    (pick (λ v. StandsInSession (call_by text v)) (bytes_eq word (codes "resize")) _ _ (resizes rest)
+    (pick (λ v. StandsInSession (call_by text v)) (bytes_eq word (codes "lock")) _ _ (locks rest)
+    (pick (λ v. StandsInSession (call_by text v)) (bytes_eq word (codes "unlock")) _ _ (unlocks rest)
+    (pick (λ v. StandsInSession (call_by text v)) (bytes_eq word (codes "stat")) _ _ (stats rest)
+    (pick (λ v. StandsInSession (call_by text v)) (bytes_eq word (codes "list")) _ _ (lists rest)
+    (pick (λ v. StandsInSession (call_by text v)) (bytes_eq word (codes "dispose")) _ _ (disposes rest) tt)))))))))
 
 -- a line's call, if it asks for one, stands in a session
 abbrev AsksInSession : Result Line ℕ → Type 0
@@ -134,7 +134,7 @@ text_asks : (text : List ℕ) → AsksInSession (line_read text)
 unfolding line_read
 text_asks text =
     either (bytes_eq (first_word text) (codes "quit")) (quit_line (behind_first text)) (with_next (call_by text (verb_of (first_word text))) (λ call. Ok (Ask call)))
-    (quit_says (behind_first text)) (asks (call_by text (verb_of (first_word text))) (says_by text (verb_of (first_word text))))
+    (quit_says (behind_first text)) (asks (call_by text (verb_of (first_word text))) (says_by text (first_word text)))
 
 stays : (text : List ℕ) (r : Reading Line) → AsksInSession r → AsksInSession (placed text r)
 stays text (Ok (Ask call)) h = h

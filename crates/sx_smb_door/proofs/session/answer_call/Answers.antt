@@ -10,7 +10,7 @@ use Rattle.sx_smb_door.proofs.Asks.{appended_call, stopped_call, receipt_line}
 use Rattle.sx_smb_door.proofs.session.answer_call.Goals as goal
 
 pub ask-requires-clause-call : goal.ask-requires-clause-call
-ask-requires-clause-call g c = λ _ _. subst (λ (d : Door). MayAskBy c.args.pass.now (Some c.args.session.now) d) (sym c.requires.call) c.requires.held
+ask-requires-clause-call g c = subst (λ (d : Door). MayAskBy c.args.pass.now (Some c.args.session.now) d) (sym c.requires.call) c.requires.held
 
 pub returns-in-Ok-clause-asked : goal.returns-in-Ok-clause-asked
 returns-in-Ok-clause-asked g c =

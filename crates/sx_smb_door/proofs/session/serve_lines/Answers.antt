@@ -100,6 +100,13 @@ returns-in-Err-clause-served g c =
     (omega (arith, inv.writes, reads.faults, c.in-Err.ensures.cause.failed)) tt
     (puts.faults ∙ c.in-Line.ensures.cause ∙ inv.reads)
 
+pub returns-in-Err-clause-calls : goal.returns-in-Err-clause-calls
+returns-in-Err-clause-calls g c =
+    let l = c.loop-line in
+    g.met.L.Link.calls_more c.args.link.now c.next.new.source c.print_line.new.sink
+    (g.met.L.Link.calls_more c.args.link.now l.link c.next.new.source l.invariant.calls (g.met.L.Link.read_calls l.link c.next.new.source c.next.ensures.step))
+    (g.met.L.Link.put_calls c.next.new.source c.print_line.new.sink c.in-Err.ensures.step)
+
 pub returns-in-Ok-print_line-clause-served : goal.returns-in-Ok-print_line-clause-served
 returns-in-Ok-print_line-clause-served g c =
     let l = c.loop-line in
@@ -144,8 +151,8 @@ returns-in-Err-print_line-clause-served g c =
     (omega (arith, inv.writes, reads.faults, c.in-Err-print_line.ensures.cause.failed)) tt
     (puts.faults ∙ c.in-Long.ensures.cause ∙ inv.reads)
 
-pub returns-in-None-clause-served : goal.returns-in-None-clause-served
-returns-in-None-clause-served g c =
+pub returns-in_default-clause-served : goal.returns-in_default-clause-served
+returns-in_default-clause-served g c =
     let l = c.loop-line in
     let inv = l.invariant in
     let w : Caller = caller_in c.args.pass.now c.args.session.now in
@@ -156,7 +163,7 @@ returns-in-None-clause-served g c =
     (record { pass = c.args.pass.now; clock = c.args.clock.now; tally = c.args.tally.now }) (record { pass = l.pass; clock = l.clock; tally = l.tally }) (record { pass = c.answer_line-answer.new.pass; clock = c.answer_line-answer.new.clock; tally = c.answer_line-answer.new.tally })
     c.in-Line.line (line_stream c.args.reader.now (g.L.Source.left c.args.link.now)) l.reader c.next.new.self (g.L.Source.left l.link)
     inv.run (left_first c.args.reader.now.held (g.L.Source.left c.args.link.now) c.requires.reader.0) given inv.budget c.next.ensures.within (λ m. (reads.written m).0)
-    (subst P c.as_slice.ensures c.in-None.ensures.answered) (c.in-Line.ensures.cause ∙ inv.reads, reads.faults ∙ inv.writes)
+    (subst P c.as_slice.ensures c.in_default.ensures.answered) (c.in-Line.ensures.cause ∙ inv.reads, reads.faults ∙ inv.writes)
 
 pub returns-in-End-clause-served : goal.returns-in-End-clause-served
 returns-in-End-clause-served g c =
