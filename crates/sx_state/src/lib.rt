@@ -11,6 +11,7 @@ mod listing;
 mod needs;
 mod opens;
 mod places;
+mod scopes;
 mod seeking;
 mod sessions;
 mod shares;

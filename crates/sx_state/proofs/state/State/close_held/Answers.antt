@@ -1,4 +1,4 @@
-use Rattle.std.proofs.Common.{◌≡◌, ◌<◌, ◌+◌, sym, subst, arith, ◌∙◌, ℕ, length}
+use Rattle.std.proofs.Common.{◌≡◌, ◌<◌, ◌+◌, sym, subst, arith, length}
 use Rattle.std.specs.Prelude.{filter}
 use Rattle.sx_spec.specs.Account.{is_held_by}
 use Rattle.sx_state.proofs.HeldLaws.{IsClosing, closing_goes_on, closing_ends}
