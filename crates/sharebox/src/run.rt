@@ -255,8 +255,8 @@ fn refuse_words<K: Sink>(out: &mut K) -> u8
 /// `session SHARE` makes the share, and serves one session over input and output: 0 where the input was read to its
 /// end or to `quit`, 2 where a line was over its limit, cut, or past the budget of bytes, 3 and 4 where a read or write
 /// failed, 5 where memory ran out, or the office gave no pass or could not be closed, 7 where the history was full.
-/// `sign ACCOUNT KEY` and
-/// `check ACCOUNT KEY TICKS` do what `sx_tool::run_tool` says, and ask no clock. All other words are refused with 1.
+/// `sign ACCOUNT KEY` and `check ACCOUNT KEY TICKS` do what `sx_tool::run_tool` says, and ask no clock. All other words
+/// are refused with 1.
 pub fn run<R: Wait, S: Source, K: Sink, C: Clock>(
     alloc: Global,
     rt: &R,

@@ -144,3 +144,18 @@ report_fits finish.ReadFault budget taken t old new h is le fits = omega (arith,
 report_fits finish.WriteFault budget taken t old new h is le fits = omega (arith, le, fits)
 report_fits (finish.Full full) budget taken t old new h is le fits = absurd h
 report_fits finish.NoMemory budget taken t old new h is le fits = omega (arith, le, fits)
+
+-- so do those of a session that was closed behind its lines
+pub closed_fits : {K : Type 0} (wrote : K → List ℕ → Type 0) (count : K → ℕ) (k1 k2 : K) (last : List ℕ) (t : Talk) (budget taken : ℕ) (old new : Sides) (lines : Option ConnEnd) (end : ConnEnd) → EndsAs lines t → IsFarewell wrote count k1 k2 last lines end → IsEnd t.end budget t old new → taken ≡ t.given → taken ≤ budget → budget < 2 ^ 64 → taken_at end taken budget < 2 ^ 64
+closed_fits wrote count k1 k2 last t budget taken old new (Some e) end ends said h is le fits =
+    let same : t.end ≡ end = ends.0 ∙ sym said.0 in
+    subst (λ (x : ConnEnd). taken_at x taken budget < 2 ^ 64) same (report_fits t.end budget taken t old new h is le fits)
+closed_fits wrote count k1 k2 last t budget taken old new None (finish.Closed None) ends said h is le fits = omega (arith, le, fits)
+closed_fits wrote count k1 k2 last t budget taken old new None finish.WriteFault ends said h is le fits = omega (arith, le, fits)
+closed_fits wrote count k1 k2 last t budget taken old new None finish.Ended ends said h is le fits = absurd said
+closed_fits wrote count k1 k2 last t budget taken old new None (finish.Closed (Some at)) ends said h is le fits = absurd said
+closed_fits wrote count k1 k2 last t budget taken old new None (finish.Cut n) ends said h is le fits = absurd said
+closed_fits wrote count k1 k2 last t budget taken old new None finish.Spent ends said h is le fits = absurd said
+closed_fits wrote count k1 k2 last t budget taken old new None finish.ReadFault ends said h is le fits = absurd said
+closed_fits wrote count k1 k2 last t budget taken old new None (finish.Full full) ends said h is le fits = absurd said
+closed_fits wrote count k1 k2 last t budget taken old new None finish.NoMemory ends said h is le fits = absurd said

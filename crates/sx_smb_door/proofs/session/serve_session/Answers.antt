@@ -1,4 +1,4 @@
-use Rattle.std.proofs.Common.{◌≡◌, ℕ, [], true, false, ap, ◌∙◌, subst, refl, sym}
+use Rattle.std.proofs.Common.{◌≡◌, ◌<◌, ◌≤◌, ◌^◌, ℕ, [], true, false, ap, ◌∙◌, subst, refl, sym, arith}
 use Rattle.sx_answers.specs.SessionReply.{is_session_door}
 use Rattle.sx_base.specs.Sides.{Sides}
 use Rattle.sx_book.specs.declared.report.ConnEnd.{ConnEnd}
@@ -6,16 +6,32 @@ use Rattle.sx_call.specs.declared.calls.Call.TheVariants.{End}
 use Rattle.sx_lines.specs.Answers.{answer_line}
 use Rattle.sx_lines.specs.declared.answer.LineAnswer.TheVariants.{Core}
 use Rattle.sx_smb_door.specs.Asking.{DoorState, caller_in}
-use Rattle.sx_smb_door.specs.Conversation.{Conversation, LinkState, ServesLines, no_tally, report_of}
+use Rattle.sx_smb_door.specs.Conversation.{Conversation, LinkState, ServesLines, no_tally, report_of, taken_at}
 use Rattle.sx_smb_door.specs.LineReaderView.{LineReaderView}
 use Rattle.sx_smb_door.proofs.Asks.{receipt_line}
-use Rattle.sx_smb_door.proofs.Farewells.{ending, parted, served_again, report_fits}
+use Rattle.sx_smb_door.proofs.Farewells.{ending, parted, served_again, closed_fits}
 use Rattle.sx_smb_door.proofs.Sessions.{session_by, unstarted_by, visit_of}
 use Rattle.sx_smb_door.proofs.session.serve_session.Goals as goal
 
 pub say_farewell-requires : goal.say_farewell-requires
 say_farewell-requires g c =
     receipt_line c.session_replies_are_printed.ensures c.serve_lines-lines.new.pass c.end_session-receipt.new.pass c.in-Ok.session c.now-now-2.result 0 End c.end_session-receipt.result refl c.end_session-receipt.ensures.ended
+
+pub report-requires : goal.report-requires
+report-requires g c =
+    let lines = c.serve_lines-lines in
+    let bye = c.say_farewell-end in
+    let talk = lines.ensures.served.0 in
+    let last = answer_line (Core c.end_session-receipt.result.place c.end_session-receipt.result.reply false) in
+    let budget : c.new-reader.result.budget ≡ c.args.budget = ap (λ (r : LineReaderView). r.budget) c.new-reader.ensures in
+    let sides : Sides = record { left = g.L.Source.left c.args.link.now; reads = g.L.Source.read_count c.args.link.now; writes = g.L.Sink.write_count c.args.link.now } in
+    let mid : Sides = record { left = g.L.Source.left lines.new.link; reads = g.L.Source.read_count lines.new.link; writes = g.L.Sink.write_count lines.new.link } in
+    let w = caller_in c.start.new.pass c.in-Ok.session in
+    let served = subst (λ (n : ℕ). ServesLines w n [] talk (g.L.Sink.wrote c.args.link.now) (g.L.Sink.wrote lines.new.link) sides mid) budget lines.ensures.served.3 in
+    let le : lines.new.reader.taken ≤ c.args.budget = subst (λ (n : ℕ). lines.new.reader.taken ≤ n) budget lines.ensures.within in
+    let fits : c.args.budget < 2 ^ 64 = omega arith in
+    subst (λ (n : ℕ). taken_at bye.result n c.args.budget < 2 ^ 64) (sym c.taken.ensures.value)
+    (closed_fits g.L.Sink.wrote g.L.Sink.write_count lines.new.link bye.new.sink last talk c.args.budget lines.new.reader.taken sides mid lines.result bye.result lines.ensures.served.1 bye.ensures.said served.end lines.ensures.served.2.taken_is le fits)
 
 pub returns-clause-conversation : goal.returns-clause-conversation
 returns-clause-conversation g c =
