@@ -106,7 +106,7 @@ quit_by {C} ticks w budget at_first at_line at_last old new a b c line s0 r r' l
     let feed : length (with_line_feed line) ≡ length line + 1 = length-append line (10 ∷ []) in
     let P : DoorState C → Type 0 = λ x. (talk : Talk) × EndsAs None talk × IsServed ticks w talk a x r'.taken × ServesLines w budget [] talk at_first at_last old new in
     subst P (sym says.same) (
-      served_by ticks w budget at_first at_last old new a b None (finish.Closed None) (Some line) s0 (line_stream r left) (line_stream r' new.left) r'.held r.taken r'.taken run.0 same given.bytes (omega (arith, given.taken, feed)) (omega (arith, within, given.budget, budget_is))
-      (keeps_same (line_stream r' new.left)) refl
-      (subst (HasText at_first at_last) (sym (append-nil said)) (text_kept at_first at_line at_last said run.1 keep))
-      tt (record { one = given.one; short = given.short; quits = says.spells }) counts)
+    served_by ticks w budget at_first at_last old new a b None (finish.Closed None) (Some line) s0 (line_stream r left) (line_stream r' new.left) r'.held r.taken r'.taken run.0 same given.bytes (omega (arith, given.taken, feed)) (omega (arith, within, given.budget, budget_is))
+    (keeps_same (line_stream r' new.left)) refl
+    (subst (HasText at_first at_last) (sym (append-nil said)) (text_kept at_first at_line at_last said run.1 keep))
+    tt (record { one = given.one; short = given.short; quits = says.spells }) counts)

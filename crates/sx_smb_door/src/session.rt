@@ -110,9 +110,7 @@ fn answer_line<R: Wait, C: Clock>(
         (record { pass = pass.new; clock = clock.new; tally = tally.new }) answer) }
 {
     match call_of_line(alloc, line) {
-        Ok(Line::Ask(call)) => {
-            Some(answer_call(rt, office, pass, session, clock, tally, call))
-        }
+        Ok(Line::Ask(call)) => { Some(answer_call(rt, office, pass, session, clock, tally, call)) }
         Ok(Line::Quit) => None,
         Err(LineFault::Syntax { at }) => Some(LineAnswer::Syntax { at }),
         Err(LineFault::NoMemory) => {

@@ -13,8 +13,8 @@ use Rattle.sx_smb_door.proofs.Farewells.{ending, parted, served_again, closed_fi
 use Rattle.sx_smb_door.proofs.Sessions.{session_by, unstarted_by, visit_of}
 use Rattle.sx_smb_door.proofs.session.serve_session.Goals as goal
 
-pub say_farewell-requires : goal.say_farewell-requires
-say_farewell-requires g c =
+pub say_farewell-end-requires : goal.say_farewell-end-requires
+say_farewell-end-requires g c =
     receipt_line c.session_replies_are_printed.ensures c.serve_lines-lines.new.pass c.end_session-receipt.new.pass c.in-Ok.session c.now-now-2.result 0 End c.end_session-receipt.result refl c.end_session-receipt.ensures.ended
 
 pub report-requires : goal.report-requires
@@ -66,3 +66,9 @@ pub returns-clause-held : goal.returns-clause-held
 returns-clause-held g c s h =
     let lines = c.serve_lines-lines in
     c.end_session-receipt.ensures.others_held s (c.in-Ok.ensures.other s h) (lines.ensures.keeps s (c.in-Ok.ensures.held s h))
+
+pub returns-clause-calls : goal.returns-clause-calls
+returns-clause-calls g c =
+    let lines = c.serve_lines-lines in
+    let bye = c.say_farewell-end in
+    g.met.L.Link.calls_more c.args.link.now lines.new.link bye.new.sink lines.ensures.calls (g.met.L.Link.put_calls lines.new.link bye.new.sink bye.ensures.step)
