@@ -1,4 +1,5 @@
-pub mod History
 pub mod Book
-pub mod Passes
 pub mod OneHistory
+pub mod Opening
+pub mod Passes
+pub mod State

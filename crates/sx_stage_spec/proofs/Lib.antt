@@ -1,0 +1,16 @@
+pub mod Accounts
+pub mod Added
+pub mod Grown
+pub mod Histories
+pub mod Inserts
+pub mod Lists
+pub mod Lookups
+pub mod Opens
+pub mod Orders
+pub mod Places
+pub mod Refusals
+pub mod Sessions
+pub mod Shares
+pub mod Walks
+pub mod WholeSteps
+pub mod Written
