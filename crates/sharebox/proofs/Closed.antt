@@ -4,8 +4,9 @@ use Rattle.std.specs.Prelude.{Result, Ok, Err, IfOk, IfErr}
 use Rattle.std.specs.List.{AllByRecursion}
 use mathlib.Core.List.{IsPrefix}
 use Rattle.sx_base.specs.Sides.{Sides}
-use Rattle.sx_stage_call.specs.declared.call.Noted.{Noted}
-use Rattle.sx_stage_spec.specs.History.{History, IsHistory}
+use Rattle.sx_call.specs.declared.entries.Noted.{Noted}
+use Rattle.sx_spec.specs.History.{IsHistory}
+use Rattle.sx_book.specs.History.{History}
 use Rattle.sx_turn.specs.Places.{places, times, longer}
 use Rattle.sx_turn.specs.Seats.{TableId}
 use Rattle.sx_turn.proofs.Lists.{prefix_self, longer_whole}
@@ -68,7 +69,7 @@ status_with (Err fault) out report = refl
 pub served_own : {B C : Type 0} (closed : Result History B) (Q : B → Type 0) (out : B → ℕ) (ticks : C → ℕ → C → Type 0) (share : List ℕ) (wrote wrote' : List ℕ → Type 0) (office : TableId) (moment : ℕ) (c0 c1 c2 : C)
     (sides sides' : Sides) (main pass talked met : PassView) (report : ConnReport) (status : ℕ)
     → ticks c0 moment c1 → HasOpened office share moment main pass
-    → Conversation ticks wrote wrote' (record { who = pass.number; peer = loopback; share = share; budget = input_budget; history = history_of talked; from = length pass.seen }) (record { sides = sides; clock = c1 }) (record { sides = sides'; clock = c2 }) report
+    → Conversation ticks wrote wrote' (record { who = pass.number; peer = loopback; budget = input_budget; history = history_of talked; from = length pass.seen }) (record { sides = sides; clock = c1 }) (record { sides = sides'; clock = c2 }) report
     → IsPrefix pass.seen talked.seen × IsHistory talked.limit talked.seen
     → talked ≡ record pass { seen = talked.seen; mine = talked.mine } → met ≡ after_meet main talked → IfOk closed (λ b. b ≡ record { entries = met.seen; limit = met.limit }) → IfOk closed (λ _. IsAllMet met) → IfErr closed Q → ((f : B) → Q f → 1 ≤ out f) → status ≡ status_after_close closed report
     → IsServed ticks share wrote wrote' (record { sides = sides; clock = c0 }) (record { sides = sides'; clock = c2 }) status
@@ -77,8 +78,8 @@ served_own {B} {C} closed Q out ticks share wrote wrote' office moment c0 c1 c2 
     let limit : talked.limit ≡ history_limit = ap (λ (p : PassView). p.limit) kept ∙ pass_limit in
     let met_limit : met.limit ≡ history_limit = ap (λ (p : PassView). p.limit) met_is ∙ ap (λ (p : PassView). p.limit) o.main_is in
     let begins : IsPrefix (first_history share moment) talked.seen = subst (λ (l : List Noted). IsPrefix l talked.seen) (ap (λ (p : PassView). p.seen) o.pass_is) seen.0 in
-    let visit : (p : PassView) → ℕ → Visit = λ p n. record { who = p.number; peer = loopback; share = share; budget = input_budget; history = record { entries = talked.seen; limit = n }; from = length p.seen } in
-    let is : visit pass talked.limit ≡ session_visit share talked.seen = ap (λ (x : PassView × ℕ). visit x.0 x.1) (λ j. (o.pass_is j, limit j)) in
+    let visit : (p : PassView) → ℕ → Visit = λ p n. record { who = p.number; peer = loopback; budget = input_budget; history = record { entries = talked.seen; limit = n }; from = length p.seen } in
+    let is : visit pass talked.limit ≡ session_visit talked.seen = ap (λ (x : PassView × ℕ). visit x.0 x.1) (λ j. (o.pass_is j, limit j)) in
     record {
       moment = moment;
       began = c1;

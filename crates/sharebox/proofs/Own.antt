@@ -3,16 +3,15 @@ use Rattle.std.proofs.Common.{ℕ, ◌+◌, ◌<◌, ◌≡◌, ◌≢◌, ◌==
 use Rattle.std.specs.List.{AllByRecursion}
 use Rattle.std.proofs.lemmas.Bool.Decides.{nat_tests}
 use mathlib.Core.List.{IsPrefix}
-use Rattle.sx_stage_call.specs.declared.call.Entry.{Entry}
-use Rattle.sx_stage_call.specs.declared.call.Call.TheVariants.{CreateShare}
-use Rattle.sx_stage_call.specs.declared.call.Noted.{Noted}
-use Rattle.sx_stage_spec.specs.History.{noted_at}
-use Rattle.sx_stage_spec.specs.Step.{replay}
+use Rattle.sx_call.specs.declared.entries.Entry.{Entry}
+use Rattle.sx_call.specs.declared.entries.Noted.{Noted}
+use Rattle.sx_spec.specs.History.{noted_at}
+use Rattle.sx_spec.specs.Step.{replay}
 use Rattle.sx_turn.specs.Places.{places, places_from, times}
 use Rattle.sx_turn.specs.Seats.{TableId}
 use Rattle.sx_turn.proofs.Lists.{each_map}
 use Rattle.sx_book.specs.Passes.{PassView, GrowsByOthers, caller_of, with_noted, after_entry, first_pass, new_pass, pass_after_look}
-use Rattle.sharebox.specs.Command.{creation, first_history, share_quota, history_limit, session_caller}
+use Rattle.sharebox.specs.Command.{making, creation, first_history, history_limit, session_caller}
 use Rattle.sharebox.specs.Opening.{creation_behind, HasMade, HasOpened}
 
 -- a caller without places has no entry
@@ -52,7 +51,7 @@ none_such n (x ∷ xs) h k = absurd (k.0 h.0)
 first_creation : (share : List ℕ) (moment : ℕ) → creation_behind [] share moment ≡ creation share moment
 first_creation share moment =
     let at : max 0 moment ≡ moment = omega arith in
-    ap (λ (t : ℕ). record { who = 0; session = 0; at = t; fresh = 0; call = CreateShare share share_quota }) at
+    ap (λ (t : ℕ). record { who = 0; session = 0; at = t; fresh = 0; call = making share }) at
 
 append_none : (xs : List Noted) → xs ++ [] ≡ xs
 append_none [] = refl

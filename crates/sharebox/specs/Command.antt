@@ -5,11 +5,13 @@ use Rattle.std.specs.List.{AllByRecursion}
 use mathlib.Core.List.{IsPrefix}
 use Rattle.sx_base.specs.Causes.{Rose}
 use Rattle.sx_base.specs.Sides.{Sides}
-use Rattle.sx_stage_call.specs.declared.call.Call.TheVariants.{CreateShare}
-use Rattle.sx_stage_call.specs.declared.call.Entry.{Entry}
-use Rattle.sx_stage_call.specs.declared.call.Noted.{Noted}
+use Rattle.sx_call.specs.declared.calls.Call.{Call}
+use Rattle.sx_call.specs.declared.calls.Call.TheVariants.{CreateShare}
+use Rattle.sx_call.specs.declared.entries.Entry.{Entry}
+use Rattle.sx_call.specs.declared.entries.Noted.{Noted}
 use Rattle.sx_names.specs.Names.{is_share_name}
-use Rattle.sx_stage_spec.specs.History.{History, IsHistory}
+use Rattle.sx_spec.specs.History.{IsHistory}
+use Rattle.sx_book.specs.History.{History}
 use Rattle.sx_book.specs.Passes.{with_noted}
 use Rattle.sx_book.specs.declared.report.Full.{Full}
 use Rattle.sx_book.specs.declared.report.ConnEnd.{ConnEnd}
@@ -65,9 +67,13 @@ loopback = LOOPBACK
 abbrev pub input_budget : ℕ
 input_budget = INPUT_BUDGET
 
+-- the call that makes the session's share, without metadata
+abbrev pub making : List ℕ → Call
+making share = CreateShare (record { share = share; quota = share_quota; meta = [] })
+
 -- the program's own Create Share
 abbrev pub creation : List ℕ → ℕ → Entry
-creation share moment = record { who = 0; session = 0; at = moment; fresh = 0; call = CreateShare share share_quota }
+creation share moment = record { who = 0; session = 0; at = moment; fresh = 0; call = making share }
 
 -- the status of a session whose streams did not fail: out of memory comes first, then a full history
 abbrev pub status_by_counts : Bool → Option Full → ℕ → ℕ
@@ -140,12 +146,11 @@ pub record IsProgramHistory (share : List ℕ) (moment : ℕ) (entries : List No
   pub opening : IsPrefix (first_history share moment) entries
   pub legal : IsHistory history_limit entries
 
--- the program's session on a share, in the history of these entries, of which it had seen the first
-abbrev pub session_visit : List ℕ → List Noted → Visit
-session_visit share entries = record {
+-- the program's session in the history of these entries, of which it had seen the first
+abbrev pub session_visit : List Noted → Visit
+session_visit entries = record {
   who = session_caller;
   peer = loopback;
-  share = share;
   budget = input_budget;
   history = record { entries = entries; limit = history_limit };
   from = 1;
@@ -168,7 +173,7 @@ pub record IsServed {C : Type 0} (ticks : C → ℕ → C → Type 0) (share : L
   pub entries : List Noted
   pub history : IsProgramHistory share moment entries
   pub report : ConnReport
-  pub conversation : Conversation ticks wrote wrote' (session_visit share entries) (record old { clock = began }) new
+  pub conversation : Conversation ticks wrote wrote' (session_visit entries) (record old { clock = began }) new
       report
   pub closed : Result History ℕ
   pub closing : Closes closed entries

@@ -1,16 +1,15 @@
 -- How the program makes its share and takes a pass for its session.
 use Rattle.std.specs.Prelude.{ℕ, ◌+◌, ◌≡◌, List, []}
-use Rattle.sx_stage_call.specs.declared.call.Call.TheVariants.{CreateShare}
-use Rattle.sx_stage_call.specs.declared.call.Entry.{Entry}
-use Rattle.sx_stage_call.specs.declared.call.Noted.{Noted}
+use Rattle.sx_call.specs.declared.entries.Entry.{Entry}
+use Rattle.sx_call.specs.declared.entries.Noted.{Noted}
 use Rattle.sx_turn.specs.Seats.{TableId}
 use Rattle.sx_book.specs.Passes.{PassView, GrowsByOthers, entry_behind, after_entry, first_pass, new_pass}
 use Rattle.sx_book.specs.Passes.{pass_after_look}
-use Rattle.sharebox.specs.Command.{history_limit, share_quota, session_caller, creation, first_history}
+use Rattle.sharebox.specs.Command.{history_limit, session_caller, making, creation, first_history}
 
 -- the program's Create Share behind what it found
 abbrev pub creation_behind : List Noted → List ℕ → ℕ → Entry
-creation_behind found share moment = entry_behind found 0 0 moment 0 (CreateShare share share_quota)
+creation_behind found share moment = entry_behind found 0 0 moment 0 (making share)
 
 -- the first pass has made the share, behind entries of others
 pub record HasMade (office : TableId) (share : List ℕ) (moment : ℕ) (main : PassView) : Type 0 where

@@ -4,7 +4,7 @@ ghost use Rattle.std.specs.String.{string_bytes};
 ghost use mathlib.Core.List.{IsPrefix};
 ghost use Rattle.sx_base.specs.Causes.{Rose};
 ghost use Rattle.sx_base.specs.Clock.{greatest_moment};
-ghost use Rattle.sx_stage_spec.specs.History.{IsHistory};
+ghost use Rattle.sx_spec.specs.History.{IsHistory};
 ghost use Rattle.sx_book.specs.OneHistory.{history_of};
 ghost use Rattle.sx_book.specs.Passes.{first_pass};
 ghost use Rattle.sx_smb_door.specs.Conversation.{Conversation, HasText, HasPrefix};
@@ -17,9 +17,9 @@ use std::alloc::Global;
 use std::sync::Wait;
 use sx_base::{Both, Clock, NoMemory, Sink, Source};
 use sx_book::{Book, CloseFault, ConnEnd, ConnReport, Office, Pass};
-use sx_names::{Quota, ShareName};
+use sx_call::{Call, CreateShare};
+use sx_names::{Meta, Quota, ShareName};
 use sx_smb_door::serve_session;
-use sx_stage_call::Call;
 use sx_tool::{check_input, sign_input};
 
 /// The status where the input was read to its end.
@@ -60,6 +60,7 @@ const INPUT_BUDGET: u64 = 1 << 40;
 
 /// Makes the share of a session.
 fn create_share<R: Wait>(
+    alloc: Global,
     rt: &R,
     office: &Office,
     main: &mut Pass,
@@ -71,10 +72,11 @@ fn create_share<R: Wait>(
     ensures ok { OnOk result (HasMade office.now share.now now main.new) }
     ensures own { main.new.office ≡ office.now }
 {
-    let call = Call::CreateShare {
+    let call = Call::CreateShare(CreateShare {
         share: share.copy()?,
         quota: Quota::of(SHARE_QUOTA),
-    };
+        meta: Meta::new(alloc),
+    });
     match office.ask(rt, main, now, 0, None, call) {
         Ok(_) => Ok(()),
         Err(_) => Err(NoMemory),
@@ -83,6 +85,7 @@ fn create_share<R: Wait>(
 
 /// Makes the share, and takes a pass for the session, of number 1.
 fn open<R: Wait>(
+    alloc: Global,
     rt: &R,
     office: &Office,
     main: &mut Pass,
@@ -94,7 +97,7 @@ fn open<R: Wait>(
     ensures ok { IfOk result (λ pass. HasOpened office.now share.now now main.new pass) }
     ensures own { main.new.office ≡ office.now }
 {
-    create_share(rt, office, main, share, now)?;
+    create_share(alloc, rt, office, main, share, now)?;
     let Ok(pass) = office.split(rt, main) else {
         return Err(NoMemory);
     };
@@ -160,13 +163,12 @@ fn status_after_close(closed: Result<Book, CloseFault<Office, Pass>>, report: Co
     }
 }
 
-/// Serves one session on a share over input and output.
+/// Serves one session over input and output.
 fn serve_streams<R: Wait, S: Source, K: Sink, C: Clock>(
     alloc: Global,
     rt: &R,
     office: &Office,
     pass: &mut Pass,
-    share: &ShareName,
     input: &mut S,
     out: &mut K,
     clock: &mut C,
@@ -176,7 +178,6 @@ fn serve_streams<R: Wait, S: Source, K: Sink, C: Clock>(
         (record {
           who = pass.old.number;
           peer = loopback;
-          share = share.now;
           budget = input_budget;
           history = history_of pass.new;
           from = length pass.old.seen;
@@ -197,19 +198,10 @@ fn serve_streams<R: Wait, S: Source, K: Sink, C: Clock>(
         sink: out,
         peer: LOOPBACK,
     };
-    serve_session(
-        alloc,
-        rt,
-        office,
-        pass,
-        share,
-        &mut link,
-        clock,
-        INPUT_BUDGET,
-    )
+    serve_session(alloc, rt, office, pass, &mut link, clock, INPUT_BUDGET)
 }
 
-/// Makes the share in a new office, serves one session on it over input and output through a pass of its own, and
+/// Makes the share in a new office, serves one session over input and output through a pass of its own, and
 /// closes the office.
 fn session<R: Wait, S: Source, K: Sink, C: Clock>(
     alloc: Global,
@@ -233,9 +225,9 @@ fn session<R: Wait, S: Source, K: Sink, C: Clock>(
         return NO_MEMORY;
     };
     let now = clock.now();
-    match open(rt, &office, &mut main, share, now) {
+    match open(alloc, rt, &office, &mut main, share, now) {
         Ok(mut pass) => {
-            let report = serve_streams(alloc, rt, &office, &mut pass, share, input, out, clock);
+            let report = serve_streams(alloc, rt, &office, &mut pass, input, out, clock);
             office.meet(&mut main, pass);
             status_after_close(office.close(rt, main), report)
         }
@@ -260,11 +252,11 @@ fn refuse_words<K: Sink>(out: &mut K) -> u8
 
 /// Does what the words of the command line say, and gives the program's status.
 ///
-/// `session SHARE` makes the share, and serves one session on it over input and output: 0 where the input was read to
-/// its end, 2 where a line was over its limit, cut, or past the budget of bytes, 3 and 4 where a read or write
+/// `session SHARE` makes the share, and serves one session over input and output: 0 where the input was read to its
+/// end or to `quit`, 2 where a line was over its limit, cut, or past the budget of bytes, 3 and 4 where a read or write
 /// failed, 5 where memory ran out, or the office gave no pass or could not be closed, 7 where the history was full.
-/// `sign ACCOUNT KEY` and
-/// `check ACCOUNT KEY TICKS` do what `sx_tool::run_tool` says, and ask no clock. All other words are refused with 1.
+/// `sign ACCOUNT KEY` and `check ACCOUNT KEY TICKS` do what `sx_tool::run_tool` says, and ask no clock. All other words
+/// are refused with 1.
 pub fn run<R: Wait, S: Source, K: Sink, C: Clock>(
     alloc: Global,
     rt: &R,

@@ -57,7 +57,7 @@ const ROWS: [Row; 17] = [
             OK 3 open 1 created 2 0\n\
             ERR OBJECT_NAME_COLLISION 4 there id 2\n\
             ERR OBJECT_NAME_NOT_FOUND 5 no name\n\
-            ERR NOT_BUILT\n\
+            ERR SYNTAX 0\n\
         ",
         status: 0,
     },
@@ -72,6 +72,8 @@ const ROWS: [Row; 17] = [
             open other a.txt rw rwd existing file\n\
             close 2\n\
             close 2\n\
+            quit\n\
+            close 1\n\
         ",
         read: NONE,
         put: NONE,
@@ -81,9 +83,10 @@ const ROWS: [Row; 17] = [
             OK 5 open 2 opened 2 5\n\
             OK 6 read 5 00000000ff\n\
             OK 7 read 0 -\n\
-            ERR NOT_BUILT\n\
-            OK 8 close kept\n\
-            ERR INVALID_HANDLE 9 handle 1.2\n\
+            ERR BAD_NETWORK_NAME 8 no share\n\
+            OK 9 close kept\n\
+            ERR INVALID_HANDLE 10 handle 1.2\n\
+            OK 11 end 1\n\
         ",
         status: 0,
     },

@@ -2,13 +2,15 @@
 use Rattle.std.proofs.Common.{ℕ, ◌+◌, ◌<◌, ◌≤◌, ◌≡◌, true, List, [], ◌∷◌, ◌++◌, length, Some, refl, ap, sym, ◌∙◌, subst, arith, eq-eqb}
 use Rattle.std.specs.Prelude.{Result, Ok, Err, IfOk, IfErr, OnOk, OnErr}
 use mathlib.Core.List.{IsPrefix}
-use Rattle.sx_stage_call.specs.declared.call.Call.{Call}
-use Rattle.sx_stage_call.specs.declared.call.Noted.{Noted}
-use Rattle.sx_stage_call.specs.declared.reply.Stop.{Stop}
-use Rattle.sx_stage_call.specs.declared.reply.Stop.TheVariants.{HistoryFull}
-use Rattle.sx_stage_spec.specs.History.{History, IsHistory, is_in_session, noted_at, wants}
-use Rattle.sx_stage_spec.specs.Step.{replay}
-use Rattle.sx_stage_spec.specs.Whole.{IsWhole}
+use Rattle.sx_call.specs.declared.calls.Call.{Call}
+use Rattle.sx_call.specs.declared.entries.Noted.{Noted}
+use Rattle.sx_call.specs.declared.refusals.Stop.{Stop}
+use Rattle.sx_call.specs.declared.refusals.Stop.TheVariants.{HistoryFull}
+use Rattle.sx_book.specs.History.{History}
+use Rattle.sx_call.specs.Calls.{door_of}
+use Rattle.sx_spec.specs.History.{IsHistory, stands_in, noted_at, wants}
+use Rattle.sx_spec.specs.Step.{replay}
+use Rattle.sx_spec.specs.Whole.{IsWhole}
 use Rattle.sx_turn.specs.Seats.{SeatView, HasPlacesIn, IsExact, after_take, after_give}
 use Rattle.sx_turn.specs.Places.{places, places_from}
 use Rattle.sx_turn.proofs.Places.{grown_more, grown_same, places_append}
@@ -23,9 +25,9 @@ others_found s log begins found own = others_between s.number s.mine s.seen log 
 
 -- the call stands in its session there
 pub stands_found : (p : PassView) (s : SeatView Noted) (log found : List Noted) (limit who session : ℕ) (call : Call) → pass_view s ≡ p → GrowsByOthers s.number s.seen log → IsHistory limit log → found ≡ log → who ≡ s.number → StandsIn p session call
-    → is_in_session (replay found) who session call ≡ true
+    → stands_in (replay found).store who session (door_of call) ≡ true
 stands_found p s log found limit who session call view grows h same is stands =
-    ap (λ (x : List Noted × ℕ). is_in_session (replay x.0) x.1 session call) (λ j. (same j, is j)) ∙ stands_among (pass_view s) session limit call log grows h (subst (λ (q : PassView). StandsIn q session call) (sym view) stands)
+    ap (λ (x : List Noted × ℕ). stands_in (replay x.0).store x.1 session (door_of call)) (λ j. (same j, is j)) ∙ stands_among (pass_view s) session limit (door_of call) log grows h (subst (λ (q : PassView). StandsIn q session call) (sym view) stands)
 
 -- the place of an own entry
 pub own_place : (who k : ℕ) (n : Noted) → n.entry.who ≡ who → places_from caller_of who k (n ∷ []) ≡ k ∷ []
@@ -69,8 +71,8 @@ module _ (p : PassView) (s0 s1 s2 : SeatView Noted) (b b' : History) (who sessio
 
   -- the call took no place
   pub appended_none : (r : Result Receipt Stop) → pass_view s0 ≡ p → s1 ≡ after_take b.entries s0 → GrowsByOthers s0.number s0.seen b.entries → b.limit ≡ s0.lasting → IsHistory b.limit b.entries
-      → length b.entries + length (replay b.entries).sessions ≤ b.limit
-      → ((entries sessions limit : ℕ) → r ≡ Err (HistoryFull entries sessions limit) → (b.limit < length b.entries + wants (replay b.entries) call) × (entries ≡ length b.entries) × (sessions ≡ length (replay b.entries).sessions) × (limit ≡ b.limit))
+      → length b.entries + length (replay b.entries).store.sessions ≤ b.limit
+      → ((entries sessions limit : ℕ) → r ≡ Err (HistoryFull entries sessions limit) → (b.limit < length b.entries + wants (replay b.entries) call) × (entries ≡ length b.entries) × (sessions ≡ length (replay b.entries).store.sessions) × (limit ≡ b.limit))
       → OnErr r (b' ≡ b)
       → s2 ≡ after_give b'.entries s1
       → HasPlacesIn caller_of b.entries s0

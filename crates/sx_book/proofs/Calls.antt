@@ -2,11 +2,11 @@
 use Rattle.std.proofs.Common.{ℕ, ◌+◌, ◌-◌, ◌<◌, ◌≤◌, ◌≡◌, List, [], ◌∷◌, ◌++◌, length, take, drop, slice_get, Some, refl, sym, ap, ◌∙◌, subst, arith, length-append, append_assoc, append-nil}
 use Rattle.std.proofs.lemmas.List.{take-append-le, take_all, drop_at}
 use Rattle.std.proofs.lemmas.List.Concat.{flat_map-append}
-use Rattle.sx_stage_call.specs.declared.call.Call.{Call}
-use Rattle.sx_stage_call.specs.declared.call.Noted.{Noted}
-use Rattle.sx_stage_call.specs.declared.reply.Stop.TheVariants.{HistoryFull, NoMemory}
-use Rattle.sx_stage_spec.specs.History.{noted_at, wants}
-use Rattle.sx_stage_spec.specs.Step.{step, replay}
+use Rattle.sx_call.specs.declared.calls.Call.{Call}
+use Rattle.sx_call.specs.declared.entries.Noted.{Noted}
+use Rattle.sx_call.specs.declared.refusals.Stop.TheVariants.{HistoryFull, NoMemory}
+use Rattle.sx_spec.specs.History.{noted_at, wants}
+use Rattle.sx_spec.specs.Step.{step, replay}
 use Rattle.sx_turn.specs.Places.{places, places_from}
 use Rattle.sx_turn.proofs.Places.{places_append}
 use Rattle.sx_book.specs.Passes.{PassView, caller_of, GrowsByOthers, Appends, AppendsNone, HasOwnPlaces, entry_behind, with_noted}
@@ -99,7 +99,7 @@ module _ (p q : PassView) (session now fresh : ℕ) (call : Call) where
             record {
               behind = omega (arith, long, f.entries_is);
               within = omega (arith, f.entries_is);
-              sessions_is = f.sessions_is ∙ ap (λ (x : List Noted). length (replay x).sessions) whole;
+              sessions_is = f.sessions_is ∙ ap (λ (x : List Noted). length (replay x).store.sessions) whole;
               kept = omega (arith, f.within, f.limit_is);
               full = subst (λ (x : List Noted). q.limit < entries + wants (replay x) call) whole full;
             },

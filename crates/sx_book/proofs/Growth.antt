@@ -3,12 +3,13 @@ use Rattle.std.proofs.Common.{ℕ, zero, suc, ◌+◌, ◌-◌, ◌<◌, ◌≤�
 use Rattle.std.specs.List.{AllByRecursion}
 use Rattle.std.proofs.lemmas.List.{take-append-le, drop-append-le, drop_at, length-drop}
 use Rattle.std.proofs.lemmas.List.Concat.{flat_map-append}
-use Rattle.sx_stage_call.specs.declared.call.Call.{Call}
-use Rattle.sx_stage_call.specs.declared.call.Noted.{Noted}
-use Rattle.sx_stage_call.specs.declared.reply.Reply.{Reply}
-use Rattle.sx_stage_spec.specs.Account.{Account}
-use Rattle.sx_stage_spec.specs.History.{History, noted_at, wants}
-use Rattle.sx_stage_spec.specs.Step.{replay, step}
+use Rattle.sx_call.specs.declared.calls.Call.{Call}
+use Rattle.sx_call.specs.declared.entries.Noted.{Noted}
+use Rattle.sx_call.specs.declared.replies.Reply.{Reply}
+use Rattle.sx_spec.specs.Account.{Account}
+use Rattle.sx_book.specs.History.{History}
+use Rattle.sx_spec.specs.History.{noted_at, wants}
+use Rattle.sx_spec.specs.Step.{replay, step}
 use Rattle.sx_turn.specs.Places.{places_from}
 use Rattle.sx_turn.proofs.Lists.{each_append, each_map}
 use Rattle.sx_turn.proofs.Places.{places_append}
@@ -53,7 +54,7 @@ module _ (limit : ℕ) (h more : List Noted) where
       record {
         behind = x.behind;
         within = longer_than n x.within;
-        sessions_is = x.sessions_is ∙ ap (λ (t : Account). length t.sessions) same;
+        sessions_is = x.sessions_is ∙ ap (λ (t : Account). length t.store.sessions) same;
         kept = x.kept;
         full = subst (λ (t : Account). limit < n + wants t call) same x.full;
       }

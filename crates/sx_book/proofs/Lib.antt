@@ -1,6 +1,8 @@
 pub mod Wholes
+pub mod Callers
 pub mod Lives
 pub mod Others
+pub mod Books
 pub mod Appended
 pub mod Held
 pub mod Growth

@@ -3,7 +3,7 @@ use Rattle.std.proofs.Common.{ℕ, ◌+◌, ◌≡◌, ◌≢◌, ◌==◌, if�
 use Rattle.std.specs.List.{AllByRecursion}
 use Rattle.std.proofs.lemmas.Bool.Decides.{nat_tests}
 use mathlib.Core.List.{IsPrefix}
-use Rattle.sx_stage_call.specs.declared.call.Noted.{Noted}
+use Rattle.sx_call.specs.declared.entries.Noted.{Noted}
 use Rattle.sx_turn.specs.Places.{places, places_from}
 use Rattle.sx_turn.proofs.Lists.{none_left}
 use Rattle.sx_turn.proofs.Places.{places_append}

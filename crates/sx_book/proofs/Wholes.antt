@@ -1,90 +1,109 @@
--- What operations use of a whole account.
-use Rattle.std.proofs.Common.{◌≡◌, ℕ, ◌+◌, ◌-◌, ◌^◌, ◌<◌, ◌≤◌, if◌then◌else◌, false, List, [], ◌∷◌, Option, Some, None, is_some, true, refl, ap, arith, length, option_map}
-use Rattle.std.proofs.lemmas.Option.{slice_get-get_or}
-use Rattle.std.specs.Prelude.{IfSome}
+-- What operations want of a whole account.
+use Rattle.std.proofs.Common.{◌≡◌, ℕ, ◌+◌, ◌-◌, ◌^◌, ◌<◌, ◌≤◌, ◌==◌, cond, true, false, List, [], ◌∷◌, Option, Some, None, refl, ap, arith, length}
+use Rattle.std.specs.Prelude.{All, AllPairs, IfOk, IfSome, ok_or}
 use Rattle.std.specs.List.{AllByRecursion, find}
 use Rattle.std.proofs.lemmas.Bool.Decides.{nat_tests}
-use Rattle.sx_base.specs.Entries.{value_at}
-use Rattle.sx_stage_call.specs.declared.held.Live.{Live}
-use Rattle.sx_stage_tree.specs.declared.node.Found.{Found}
-use Rattle.sx_stage_tree.specs.declared.node.Found.TheVariants.{Node, Missing, NoParent}
-use Rattle.sx_stage_tree.specs.declared.share.Share.{Share}
-use Rattle.sx_stage_tree.specs.Nodes.{Nodes, slot_at, found_in}
-use Rattle.sx_stage_spec.specs.Account.{Account, is_session, session_of, share_named, place_of}
-use Rattle.sx_stage_spec.specs.Step.{last_part}
-use Rattle.sx_stage_spec.specs.Whole.{IsWhole, IsTree, IsLiveSession}
-use Rattle.sx_book.specs.Opening.{HasName}
+use Rattle.std.proofs.lemmas.List.Elements.{All-head, All-tail}
+use Rattle.sx_base.specs.Clock.{greatest_moment}
+use Rattle.sx_base.specs.Moment.{greatest_written}
+use Rattle.sx_call.specs.declared.doors.Door.{Door}
+use Rattle.sx_call.specs.declared.doors.Door.TheVariants.{Rest, Starts, Ends, InSession}
+use Rattle.sx_call.specs.declared.opens.Live.{Live}
+use Rattle.sx_guard.specs.Handle.{handle_before}
+use Rattle.sx_tree.specs.Tree.{Nodes, slot_at}
+use Rattle.sx_tree.specs.declared.share.Share.{Share}
+use Rattle.sx_call.specs.declared.refusals.Refusal.TheVariants.{ShareAbsent}
+use Rattle.sx_spec.specs.Account.{Account, has_name, is_session, session_of}
+use Rattle.sx_spec.specs.History.{is_of_caller, stands_in}
+use Rattle.sx_spec.specs.Whole.{IsWhole, IsTree, IsLive}
+use Rattle.sx_spec.proofs.Placed.{found_value}
+use Rattle.sx_state.specs.Ids.{CanGrant, IsFresh}
+use Rattle.sx_ops.specs.Ready.{CanGive, NamesSession}
 
 none_by : {X : Type 0} (o : Option X) → ((x : X) → o ≡ Some x → ⊥) → o ≡ None
 none_by None f = refl
 none_by (Some x) f = absurd (f x refl)
 
-some_by : {X : Type 0} (P : X → Type 0) (o : Option X) → ((x : X) → o ≡ Some x → P x) → IfSome o P
-some_by P None f = tt
-some_by P (Some x) f = f x refl
+below_itself : (n : ℕ) → n < n → ⊥
+below_itself n l = omega (arith, l)
 
-below_itself : (q n : ℕ) → q < n → q ≡ n → ⊥
-below_itself q n l e = omega (arith, l, e)
+fresh_id : (next : ℕ) (t : Nodes) → IsTree next t → slot_at t next ≡ None
+fresh_id next t w = none_by (slot_at t next) (λ x e. below_itself next (w.ids next x e).1)
 
--- the next id is in no tree
-pub fresh_id : (next : ℕ) (t : Nodes) → IsTree next t → slot_at t next ≡ None
-fresh_id next t w = none_by (slot_at t next) (λ x e. below_itself next next (w.ids next x e).1 refl)
+few : (started came : ℕ) (ls : List Live) → came + 1 < 2 ^ 32 → All (IsLive started came) ls
+    → AllByRecursion (λ l. l.granted < 2 ^ 32 - 1) ls
+few started came [] h all = tt
+few started came (l ∷ ls) h all =
+    let live = All-head (IsLive started came) l ls all in
+    (omega (arith, h, live.granted), few started came ls h (All-tail (IsLive started came) l ls all))
 
-pub fresh_in : (a : Account) (share : ℕ) → IsWhole a → IfSome (value_at a.shares share) (λ s. slot_at s.tree a.next_id ≡ None)
-fresh_in a share w = some_by (λ s. slot_at s.tree a.next_id ≡ None) (value_at a.shares share) (λ s e. fresh_id a.next_id s.tree (w.shares share s e).tree)
+given_less : (came : ℕ) (o : Option ℕ) → came + 1 < 2 ^ 32 → IfSome o (λ last. last ≤ greatest_moment + came)
+    → IfSome o (λ last. last < greatest_written)
+given_less came None h le = tt
+given_less came (Some last) h le = omega (arith, h, le)
 
-few : (started entry_count : ℕ) (ls : List Live) → entry_count + 1 < 2 ^ 32 → AllByRecursion (IsLiveSession started entry_count) ls → AllByRecursion (λ l. l.granted < 2 ^ 32 - 1) ls
-few started entry_count [] h all = tt
-few started entry_count (l ∷ ls) h all = (omega (arith, h, all.0.granted), few started entry_count ls h all.1)
-
--- each session can be granted one more open
-pub grants_left : (a : Account) → IsWhole a → a.entry_count + 1 < 2 ^ 32 → AllByRecursion (λ l. l.granted < 2 ^ 32 - 1) a.sessions
-grants_left a w h = few a.started a.entry_count a.sessions h w.live
-
-first_in : (started entry_count : ℕ) (ls : List Live) (session : ℕ) → AllByRecursion (IsLiveSession started entry_count) ls → is_some (find (is_session session) ls) ≡ true → 1 ≤ session
-first_in started entry_count [] session all = λ e. absurd cc
-first_in started entry_count (l ∷ ls) session all =
-    elim (is_session session l) as (λ b. is_session session l ≡ b → is_some (if b then Some l else find (is_session session) ls) ≡ true → 1 ≤ session) [
-      | true ↦ λ same e. let first = all.0.first in grind (arith, nat_tests)
-      | false ↦ λ other e. first_in started entry_count ls session all.1 e
-    ] refl
-
--- a live session has a number of 1 or more
-pub session_first : (a : Account) (session : ℕ) → IsWhole a → is_some (session_of a session) ≡ true → 1 ≤ session
-session_first a session w live = first_in a.started a.entry_count a.sessions session w.live live
-
-started_in : (started entry_count : ℕ) (ls : List Live) (session : ℕ) → AllByRecursion (IsLiveSession started entry_count) ls → is_some (find (is_session session) ls) ≡ true → session ≤ started
-started_in started entry_count [] session all = λ e. absurd cc
-started_in started entry_count (l ∷ ls) session all =
-    elim (is_session session l) as (λ b. is_session session l ≡ b → is_some (if b then Some l else find (is_session session) ls) ≡ true → session ≤ started) [
-      | true ↦ λ same e. let most = all.0.started in grind (arith, nat_tests)
-      | false ↦ λ other e. started_in started entry_count ls session all.1 e
-    ] refl
+live_number : (started came who : ℕ) (ls : List Live) (session : ℕ) → All (IsLive started came) ls
+    → is_of_caller who (find (is_session session) ls) ≡ true → (1 ≤ session) × (session ≤ started)
+live_number started came who [] session all e = absurd (cc e)
+live_number started came who (l ∷ ls) session all e =
+    elim (l.session == session) as (λ b. (l.session == session) ≡ b → is_of_caller who (cond b (Some l) (find (is_session session) ls)) ≡ true → (1 ≤ session) × (session ≤ started)) [
+      | true ↦ λ same g.
+          let live = All-head (IsLive started came) l ls all in
+          let first = live.first in
+          let most = live.started in
+          let is : l.session ≡ session = grind (arith, nat_tests) in
+          (omega (arith, first, is), omega (arith, most, is))
+      | false ↦ λ other g. live_number started came who ls session (All-tail (IsLive started came) l ls all) g
+    ] refl e
 
 -- a live session has the number of one that was started
-pub session_started : (a : Account) (session : ℕ) → IsWhole a → is_some (session_of a session) ≡ true → session ≤ a.started
-session_started a session w live = started_in a.started a.entry_count a.sessions session w.live live
+pub session_started : (a : Account) (who session : ℕ) → IsWhole a
+    → is_of_caller who (session_of a.store session) ≡ true → (1 ≤ session) × (session ≤ a.store.started)
+session_started a who session w live = live_number a.store.started a.came who a.store.sessions session w.sessions.each live
 
-found_or : Found → Option (ℕ × Found) → Found
-found_or f None = f
-found_or f (Some p) = p.1
+module _ (a : Account) (w : IsWhole a) where
+  -- the next id is in no tree
+  pub whole_fresh : IsFresh a.store
+  whole_fresh n x e = fresh_id a.store.next_id x.tree (w.shares.each n x e).tree
 
-not_missing : (id parent : ℕ) → Node id ≡ Missing parent → ⊥
-not_missing id parent e = cc
+  -- the opens stand in order of handle, each handle once
+  pub whole_order : AllPairs (λ o q. handle_before o.handle q.handle ≡ true) a.store.opens
+  whole_order = w.opens.order
 
-root_found : (o : Option (ℕ × Share)) (n : ℕ) (f : Found) → option_map {U = ℕ × Found} (λ (e : ℕ × Share). (e.0, found_in e.1.tree [])) o ≡ Some (n, f) → HasName [] f
-unfolding found_or
-root_found None n f e = absurd cc
-root_found (Some s) n (Node id) e = tt
-root_found (Some s) n (Missing parent) e = absurd (not_missing s.1.tree.root parent (ap (found_or (Missing parent)) e))
-root_found (Some s) n (NoParent parts) e = tt
+  -- a call that stands in a session names one
+  pub whole_session : (who session : ℕ) (door : Door) → stands_in a.store who session door ≡ true → NamesSession door session
+  whole_session who session Rest stands = tt
+  whole_session who session Starts stands = tt
+  whole_session who session Ends stands = (session_started a who session w stands).0
+  whole_session who session InSession stands = (session_started a who session w stands).0
 
-has_last : (p : List ℕ) (ps : List (List ℕ)) (f : Found) → is_some (last_part (p ∷ ps)) ≡ true → HasName (p ∷ ps) f
-has_last p ps (Node id) h = tt
-has_last p ps (Missing parent) h = h
-has_last p ps (NoParent parts) h = tt
+module _ (a : Account) (w : IsWhole a) (more : a.came + 1 < 2 ^ 32) where
+  -- one file id more fits
+  pub whole_ids : a.store.next_id + 1 < 2 ^ 64
+  whole_ids = omega (arith, w.shares.ids, more)
 
--- a path that leads to a missing node has a last part
-pub named : (a : Account) (name : List ℕ) (path : List (List ℕ)) (n : ℕ) (f : Found) → place_of a name path ≡ Some (n, f) → HasName path f
-named a name [] n f e = root_found (share_named a.shares name) n f e
-named a name (p ∷ ps) n f e = has_last p ps f (ap is_some (slice_get-get_or (p ∷ ps) (length (p ∷ ps) - 1) p (omega arith)))
+  -- each session can be granted one more open
+  pub whole_granted : CanGrant a.store
+  whole_granted = few a.store.started a.came a.store.sessions more w.sessions.each
+
+  -- one session more fits
+  pub whole_started : a.store.started + 1 < 2 ^ 32
+  whole_started = omega (arith, w.sessions.count, more)
+
+  -- one share more fits
+  pub whole_made : a.store.made + 1 < 2 ^ 32
+  whole_made = omega (arith, w.shares.count, more)
+
+  -- the opens can be counted
+  pub whole_few : length a.store.opens < 2 ^ 32
+  whole_few = omega (arith, w.opens.count, more)
+
+  -- a tick after each moment last given can be shown
+  pub whole_given : CanGive a.store
+  whole_given name = by (find (has_name name) a.store.shares) refl
+    where
+      by : (o : Option (ℕ × Share)) → find (has_name name) a.store.shares ≡ o
+          → IfOk (ok_or o ShareAbsent) (λ place. IfSome place.1.given (λ last. last < greatest_written))
+      by None found = tt
+      by (Some p) found =
+          given_less a.came p.1.given more (w.shares.each p.0 p.1 (found_value (has_name name) a.store.shares p w.shares.sorted found)).given

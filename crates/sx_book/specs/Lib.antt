@@ -1,5 +1,4 @@
+pub mod History
 pub mod Book
-pub mod OneHistory
-pub mod Opening
 pub mod Passes
-pub mod State
+pub mod OneHistory

@@ -2,14 +2,15 @@
 use Rattle.std.specs.Prelude.{ℕ, ◌+◌, ◌-◌, ◌<◌, ◌≤◌, ◌≡◌, List, [], ◌∷◌, ◌++◌, length, take, drop, slice_get, Some}
 use Rattle.std.specs.List.{AllByRecursion, flat_map}
 use mathlib.Core.List.{IsPrefix}
-use Rattle.sx_stage_call.specs.declared.call.Call.{Call}
-use Rattle.sx_stage_call.specs.declared.call.Entry.{Entry}
-use Rattle.sx_stage_call.specs.declared.call.Noted.{Noted}
-use Rattle.sx_stage_call.specs.declared.reply.Reply.{Reply}
-use Rattle.sx_stage_spec.specs.Account.{Account}
-use Rattle.sx_stage_spec.specs.History.{History, noted_at, wants}
-use Rattle.sx_stage_spec.specs.Step.{step, replay}
+use Rattle.sx_call.specs.declared.calls.Call.{Call}
+use Rattle.sx_call.specs.declared.entries.Entry.{Entry}
+use Rattle.sx_call.specs.declared.entries.Noted.{Noted}
+use Rattle.sx_call.specs.declared.replies.Reply.{Reply}
+use Rattle.sx_spec.specs.Account.{Account}
+use Rattle.sx_spec.specs.History.{noted_at, wants}
+use Rattle.sx_spec.specs.Step.{step, replay}
 use Rattle.sx_turn.specs.Places.{places_from}
+use Rattle.sx_book.specs.History.{History}
 use Rattle.sx_book.specs.Passes.{PassView, entry_behind, caller_of}
 
 -- the account that the first so many entries leave
@@ -54,7 +55,7 @@ pub record IsAppended (h : History) (from : ℕ) (asked : Asked) (place : ℕ) (
 pub record IsFullAt (h : History) (from : ℕ) (call : Call) (entries sessions : ℕ) : Type 0 where
   pub behind : from ≤ entries
   pub within : entries ≤ length h.entries
-  pub sessions_is : sessions ≡ length (account_at h entries).sessions
+  pub sessions_is : sessions ≡ length (account_at h entries).store.sessions
   pub kept : entries + sessions ≤ h.limit
   pub full : h.limit < entries + wants (account_at h entries) call
 

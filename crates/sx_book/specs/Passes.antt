@@ -2,17 +2,19 @@
 use Rattle.std.specs.Prelude.{ℕ, ◌+◌, ◌-◌, ◌<◌, ◌≤◌, ◌≡◌, ◌≢◌, if◌then◌else◌, true, List, [], ◌∷◌, ◌++◌, length, max}
 use Rattle.std.specs.Prelude.{take, drop, Option, Some, None}
 use Rattle.std.specs.List.{AllByRecursion}
-use Rattle.sx_stage_call.specs.declared.call.Call.{Call}
-use Rattle.sx_stage_call.specs.declared.call.Call.TheVariants.{CreateShare, Start, End, SmbOpen, SmbClose, SmbRead}
-use Rattle.sx_stage_call.specs.declared.call.Call.TheVariants.{SmbWrite}
-use Rattle.sx_stage_call.specs.declared.call.Entry.{Entry}
-use Rattle.sx_stage_call.specs.declared.call.Noted.{Noted}
-use Rattle.sx_stage_call.specs.declared.reply.Stop.{Stop}
-use Rattle.sx_stage_call.specs.declared.reply.Stop.TheVariants.{HistoryFull}
-use Rattle.sx_stage_spec.specs.Account.{session_of}
-use Rattle.sx_stage_spec.specs.History.{IsHistory, is_of_caller, draws_none, noted_at, wants, last_moment}
-use Rattle.sx_stage_spec.specs.Step.{step, replay}
-use Rattle.sx_stage_spec.specs.Whole.{IsWhole}
+use Rattle.sx_call.specs.declared.calls.Call.{Call}
+use Rattle.sx_call.specs.Calls.{door_of}
+use Rattle.sx_call.specs.declared.calls.Call.TheVariants.{Start, End}
+use Rattle.sx_call.specs.declared.doors.Door.{Door}
+use Rattle.sx_call.specs.declared.doors.Door.TheVariants.{Rest, Starts, Ends, InSession}
+use Rattle.sx_call.specs.declared.entries.Entry.{Entry}
+use Rattle.sx_call.specs.declared.entries.Noted.{Noted}
+use Rattle.sx_call.specs.declared.refusals.Stop.{Stop}
+use Rattle.sx_call.specs.declared.refusals.Stop.TheVariants.{HistoryFull}
+use Rattle.sx_spec.specs.Account.{session_of}
+use Rattle.sx_spec.specs.History.{IsHistory, is_of_caller, draws, noted_at, wants, last_moment}
+use Rattle.sx_spec.specs.Step.{step, replay}
+use Rattle.sx_spec.specs.Whole.{IsWhole}
 use Rattle.sx_turn.specs.Places.{places, times, once_below, longer}
 use Rattle.sx_turn.specs.Seats.{TableId, SeatView}
 use Rattle.sx_book.specs.declared.pass.Receipt.{Receipt}
@@ -53,13 +55,17 @@ GrowsByOthers number seen log =
 abbrev pub SawMore : PassView → PassView → Type 0
 SawMore p q = GrowsByOthers p.number p.seen q.seen × (q ≡ record p { seen = q.seen })
 
+-- the start of a session of a peer
+abbrev pub start_of : ℕ → Call
+start_of peer = Start (record { peer = peer })
+
 -- an entry's moment: the caller's, or that of the entry before it where that is later
 abbrev pub later : List Noted → ℕ → ℕ
 later log now = max (last_moment log) now
 
--- the random number stands in the entry of a REST call, 0 in that of a session's
+-- the random number stands in the entry of a REST call, 0 in that of each other
 abbrev pub fresh_for : Call → ℕ → ℕ
-fresh_for call fresh = if draws_none call then 0 else fresh
+fresh_for call fresh = if draws (door_of call) then fresh else 0
 
 -- the entry of a call behind this list
 abbrev pub entry_behind : List Noted → ℕ → ℕ → ℕ → ℕ → Call → Entry
@@ -100,7 +106,7 @@ pub record IsFull (p : PassView) (call : Call) (entries sessions limit : ℕ) : 
   pub full : p.limit < length p.seen + wants (replay p.seen) call
   pub within : entries + sessions ≤ limit
   pub entries_is : entries ≡ length p.seen
-  pub sessions_is : sessions ≡ length (replay p.seen).sessions
+  pub sessions_is : sessions ≡ length (replay p.seen).store.sessions
   pub limit_is : limit ≡ p.limit
 
 -- the call was not appended: the pass has seen more entries of others of a legal history, and has exactly its places;
@@ -122,7 +128,7 @@ pub record HoldsIn (who : ℕ) (seen : List Noted) (session : ℕ) : Type 0 wher
   pub begun : List Noted
   pub since : List Noted
   pub seen_is : seen ≡ begun ++ since
-  pub live : is_of_caller who (session_of (replay begun) session) ≡ true
+  pub live : is_of_caller who (session_of (replay begun).store session) ≡ true
   pub kept : AllByRecursion (λ n. IsNoEndOf who session n.entry) since
 
 -- the pass holds the session
@@ -134,26 +140,28 @@ abbrev pub HoldsGiven : PassView → Option ℕ → Type 0
 HoldsGiven p None = ⊥
 HoldsGiven p (Some session) = HoldsSession p session
 
+-- a call of this door stands in no session, or in one that the pass holds
+abbrev pub StandsBy : PassView → ℕ → Door → Type 0
+StandsBy p session Rest = session ≡ 0
+StandsBy p session Starts = session ≡ 0
+StandsBy p session Ends = HoldsSession p session
+StandsBy p session InSession = HoldsSession p session
+
 -- the call stands in no session, or in one that the pass holds
 abbrev pub StandsIn : PassView → ℕ → Call → Type 0
-StandsIn p session (CreateShare share quota) = session ≡ 0
-StandsIn p session (Start peer) = session ≡ 0
-StandsIn p session End = HoldsSession p session
-StandsIn p session (SmbOpen share path access mode how) = HoldsSession p session
-StandsIn p session (SmbClose index) = HoldsSession p session
-StandsIn p session (SmbRead index at count) = HoldsSession p session
-StandsIn p session (SmbWrite index update) = HoldsSession p session
+StandsIn p session call = StandsBy p session (door_of call)
+
+-- a call of this door may be asked with this session, or without one
+abbrev pub MayAskBy : PassView → Option ℕ → Door → Type 0
+MayAskBy p session Rest = session ≡ None
+MayAskBy p session Starts = ⊥
+MayAskBy p session Ends = ⊥
+MayAskBy p session InSession = HoldsGiven p session
 
 -- what may be asked: a REST call without a session, a session's call in one that the pass holds, and neither Start
 -- nor End
 abbrev pub MayAsk : PassView → Option ℕ → Call → Type 0
-MayAsk p session (CreateShare share quota) = session ≡ None
-MayAsk p session (Start peer) = ⊥
-MayAsk p session End = ⊥
-MayAsk p session (SmbOpen share path access mode how) = HoldsGiven p session
-MayAsk p session (SmbClose index) = HoldsGiven p session
-MayAsk p session (SmbRead index at count) = HoldsGiven p session
-MayAsk p session (SmbWrite index update) = HoldsGiven p session
+MayAsk p session call = MayAskBy p session (door_of call)
 
 -- the session's number, 0 where there is none
 abbrev pub session_or_0 : Option ℕ → ℕ
@@ -223,7 +231,7 @@ after_meet p q = record p { seen = longer p.seen q.seen; known = max p.known q.k
 
 -- the number of the session that is started behind this list
 abbrev pub next_number : List Noted → ℕ
-next_number log = (replay log).started + 1
+next_number log = (replay log).store.started + 1
 
 -- the entries from a place on, counted from 1, at most so many; place 0 counts as 1
 abbrev pub entries_from : ℕ → ℕ → List Noted → List Noted

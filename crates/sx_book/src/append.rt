@@ -1,28 +1,25 @@
 //! A call of one caller, appended to a book as an entry.
 ghost use Rattle.std.specs.Prelude.{◌≡◌, ◌+◌, ◌≤◌, ◌<◌, true, IfOk, OnOk, OnErr, IsOk, Err, length, ℕ};
 ghost use Rattle.sx_base.specs.Clock.{greatest_moment};
-ghost use Rattle.sx_stage_call.specs.declared.call.Call.TheVariants as Call;
-ghost use Rattle.sx_stage_call.specs.declared.reply.Stop.TheVariants as Stop;
-ghost use Rattle.sx_stage_spec.specs.History.{IsHistory, is_in_session, wants};
-ghost use Rattle.sx_stage_spec.specs.Step.{replay};
+ghost use Rattle.sx_call.specs.Calls.{door_of};
+ghost use Rattle.sx_call.specs.declared.calls.Call.TheVariants as Call;
+ghost use Rattle.sx_call.specs.declared.refusals.Stop.TheVariants as Stop;
+ghost use Rattle.sx_spec.specs.History.{IsHistory, stands_in, wants};
+ghost use Rattle.sx_spec.specs.Step.{replay};
 ghost use Rattle.sx_book.specs.Passes.{entry_behind, with_noted, receipt_of, fresh_for};
 
 use crate::book::Book;
 use crate::pass::Receipt;
-use sx_stage_call::{Call, Entry, Stop};
+use sx_call::{Call, Door, Entry, Stop};
+use sx_moment::ClockMoment;
 
 /// The random number that stands in the call's entry.
 fn fresh_of(call: &Call, fresh: u128) -> u128
     ensures { result ≡ fresh_for call.now fresh }
 {
-    match call {
-        Call::CreateShare { .. } => fresh,
-        Call::Start { .. }
-        | Call::End
-        | Call::SmbOpen { .. }
-        | Call::SmbClose { .. }
-        | Call::SmbRead { .. }
-        | Call::SmbWrite { .. } => 0,
+    match call.door() {
+        Door::Rest => fresh,
+        Door::Starts | Door::Ends | Door::InSession => 0,
     }
 }
 
@@ -36,7 +33,7 @@ pub(crate) fn append_call(
     call: Call,
 ) -> Result<Receipt, Stop>
     requires clock { now ≤ greatest_moment }
-    requires session { is_in_session (replay book.old.entries) who session call ≡ true }
+    requires session { stands_in (replay book.old.entries).store who session (door_of call) ≡ true }
     ensures entries { OnOk result (book.new ≡ record {
       entries = with_noted book.old.entries (entry_behind book.old.entries who session now fresh call);
       limit = book.old.limit;
@@ -47,7 +44,7 @@ pub(crate) fn append_call(
     ensures full { (entries sessions limit : ℕ) → result ≡ Err (Stop.HistoryFull entries sessions limit) →
         (book.old.limit < length book.old.entries + wants (replay book.old.entries) call)
         × (entries ≡ length book.old.entries)
-        × (sessions ≡ length (replay book.old.entries).sessions) × (limit ≡ book.old.limit) }
+        × (sessions ≡ length (replay book.old.entries).store.sessions) × (limit ≡ book.old.limit) }
     ensures err { OnErr result (book.new ≡ book.old) }
     ensures legal { IsHistory book.new.limit book.new.entries }
     ensures ends { call ≡ Call.End → IsOk result }
@@ -58,7 +55,7 @@ pub(crate) fn append_call(
     let entry = Entry {
         who,
         session,
-        at,
+        at: ClockMoment::of(at),
         fresh,
         call,
     };

@@ -1,17 +1,18 @@
 //! The book: the history, with the state that it leaves.
 ghost use Rattle.std.specs.Prelude.{◌≡◌, ◌+◌, ◌<◌, ◌≤◌, ◌^◌, ◌++◌, ◌∷◌, [], IfOk, OnOk, OnErr, IsOk, length, ℕ, Err};
 ghost use Rattle.sx_base.specs.Clock.{greatest_moment};
-ghost use Rattle.sx_stage_call.specs.declared.call.Call.TheVariants as Call;
-ghost use Rattle.sx_stage_spec.specs.Account.{Account};
-ghost use Rattle.sx_stage_spec.specs.History.{IsHistory, MayCome, is_refused, wants, last_moment};
-ghost use Rattle.sx_stage_spec.specs.Step.{step, replay};
-ghost use Rattle.sx_stage_spec.specs.Whole.{IsWhole};
+ghost use Rattle.sx_call.specs.Calls.{door_of};
+ghost use Rattle.sx_call.specs.declared.calls.Call.TheVariants as Call;
+ghost use Rattle.sx_call.specs.declared.refusals.Stop.TheVariants as Stop;
+ghost use Rattle.sx_spec.specs.History.{IsHistory, MayCome, is_refused, places_wanted, wants, last_moment};
+ghost use Rattle.sx_spec.specs.Step.{step, replay};
+ghost use Rattle.sx_spec.specs.Whole.{IsWhole};
 
 use crate::apply::apply;
-use crate::state::State;
 use std::alloc::Global;
 use std::marker::Model;
-use sx_stage_call::{Call, Entry, Noted, Reply, Stop};
+use sx_call::{Call, Door, Entry, Noted, Reply, Stop};
+use sx_state::State;
 
 /// The history up to a stated limit, with the account that it leaves.
 ///
@@ -25,7 +26,7 @@ pub struct Book {
 }
 
 impl Model for Book {
-    ghost use Rattle.sx_stage_spec.specs.History.{History};
+    ghost use Rattle.sx_book.specs.History.{History};
 
     ghost Value = { History };
 
@@ -57,7 +58,7 @@ impl Book {
 
     /// The state of the account after the entries.
     pub fn state(&self) -> &State
-        ensures { result.now ≡ replay self.now.entries }
+        ensures { result.now ≡ (replay self.now.entries).store }
     {
         &self.state
     }
@@ -75,25 +76,25 @@ impl Book {
         ensures clock { result ≤ greatest_moment }
     {
         match self.entries.last() {
-            Some(noted) => noted.entry.at,
+            Some(noted) => noted.entry.at.ticks(),
             None => 0,
         }
     }
 
     /// How many sessions are live.
     pub fn live(&self) -> u64
-        ensures { result ≡ length (replay self.now.entries).sessions }
+        ensures { result ≡ length (replay self.now.entries).store.sessions }
     {
         self.state.live()
     }
 
     /// How many sessions were started.
     pub fn started(&self) -> u32
-        ensures value { result ≡ (replay self.now.entries).started }
+        ensures value { result ≡ (replay self.now.entries).store.started }
         ensures few { result ≤ length self.now.entries }
         ensures within { length self.now.entries ≤ self.now.limit }
     {
-        self.state.started
+        self.state.started()
     }
 
     /// What a book keeps: its history is legal for its limit, the account that it leaves is whole, and each live
@@ -101,7 +102,7 @@ impl Book {
     pub fn keeps(&self)
         ensures history { IsHistory self.now.limit self.now.entries }
         ensures whole { IsWhole (replay self.now.entries) }
-        ensures room { length self.now.entries + length (replay self.now.entries).sessions ≤ self.now.limit }
+        ensures room { length self.now.entries + length (replay self.now.entries).store.sessions ≤ self.now.limit }
     {
         let _limit = self.limit;
     }
@@ -122,7 +123,7 @@ impl Book {
         ensures full { (entries sessions limit : ℕ) → result ≡ Err (Stop.HistoryFull entries sessions limit) →
             (self.old.limit < length self.old.entries + wants (replay self.old.entries) entry.call)
             × (entries ≡ length self.old.entries)
-            × (sessions ≡ length (replay self.old.entries).sessions) × (limit ≡ self.old.limit) }
+            × (sessions ≡ length (replay self.old.entries).store.sessions) × (limit ≡ self.old.limit) }
         ensures err { OnErr result (self.new ≡ self.old) }
         ensures ends { entry.call ≡ Call.End → IsOk result }
     {
@@ -141,7 +142,7 @@ impl Book {
             return Err(Stop::NoMemory);
         };
         entry.call.keeps_limits();
-        let Ok(reply) = apply(&mut self.state, &entry) else {
+        let Ok(reply) = apply(&mut self.state, entries, &entry) else {
             return Err(Stop::NoMemory);
         };
         let refused = is_refusal(&reply);
@@ -156,15 +157,16 @@ fn count(entries: &[Noted]) -> u64
     entries.len() as u64
 }
 
+/// How many places a call wants, for itself and for the ends of the sessions that are live behind it.
 fn wanted(sessions: u64, call: &Call) -> u64
     requires { sessions < 2 ^ 32 }
-    ensures wants { (a : Account) → length a.sessions ≡ sessions → result ≡ wants a call.now }
+    ensures wants { result ≡ places_wanted sessions (door_of call.now) }
     ensures few { result ≤ sessions + 2 }
 {
-    match call {
-        Call::Start { .. } => sessions + 2,
-        Call::End => sessions,
-        _ => sessions + 1,
+    match call.door() {
+        Door::Starts => sessions + 2,
+        Door::Ends => sessions,
+        Door::Rest | Door::InSession => sessions + 1,
     }
 }
 
@@ -173,6 +175,6 @@ fn is_refusal(reply: &Reply) -> bool
 {
     match reply {
         Reply::Refused(_) => true,
-        Reply::Created | Reply::Smb(_) => false,
+        _ => false,
     }
 }

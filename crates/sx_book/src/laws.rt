@@ -1,9 +1,9 @@
 //! The laws of what calls come to in one history.
 ghost use Rattle.std.specs.Prelude.{◌≡◌, ◌++◌, ◌≤◌, ◌∷◌, ◌≢◌, [], ℕ, List, length};
 ghost use Rattle.std.specs.List.{AllByRecursion};
-ghost use Rattle.sx_stage_call.specs.declared.call.Call.{Call};
-ghost use Rattle.sx_stage_call.specs.declared.call.Noted.{Noted};
-ghost use Rattle.sx_stage_call.specs.declared.reply.Stop.TheVariants.{HistoryFull, NoMemory};
+ghost use Rattle.sx_call.specs.declared.calls.Call.{Call};
+ghost use Rattle.sx_call.specs.declared.entries.Noted.{Noted};
+ghost use Rattle.sx_call.specs.declared.refusals.Stop.TheVariants.{HistoryFull, NoMemory};
 ghost use Rattle.sx_book.specs.declared.pass.Receipt.{Receipt};
 ghost use Rattle.sx_book.specs.Passes.{PassView, Appends, AppendsNone, HasOwnPlaces};
 ghost use Rattle.sx_book.specs.OneHistory.{AreCallsIn, Asks, CameAll, Outcome, appended, history_full, no_memory};

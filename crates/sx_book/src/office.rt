@@ -5,18 +5,18 @@ ghost use Rattle.std.specs.List.{AllByRecursion};
 ghost use Rattle.std.specs.Option.{option_copied};
 ghost use mathlib.Core.List.{IsPrefix};
 ghost use Rattle.sx_base.specs.Clock.{greatest_moment};
-ghost use Rattle.sx_stage_call.specs.declared.call.Call.TheVariants as Call;
-ghost use Rattle.sx_stage_call.specs.declared.reply.Reply.TheVariants.{Smb};
-ghost use Rattle.sx_stage_call.specs.declared.reply.SmbReply.TheVariants.{Started};
-ghost use Rattle.sx_stage_call.specs.declared.reply.Stop.TheVariants as Stop;
-ghost use Rattle.sx_stage_spec.specs.History.{draws_none, wants};
-ghost use Rattle.sx_stage_spec.specs.Step.{replay};
+ghost use Rattle.sx_call.specs.declared.calls.Call.TheVariants as Call;
+ghost use Rattle.sx_call.specs.declared.replies.Reply.TheVariants.{Smb};
+ghost use Rattle.sx_call.specs.declared.replies.SmbReply.TheVariants.{Started};
+ghost use Rattle.sx_call.specs.declared.refusals.Stop.TheVariants as Stop;
+ghost use Rattle.sx_spec.specs.History.{wants};
+ghost use Rattle.sx_spec.specs.Step.{replay};
 ghost use Rattle.sx_turn.specs.declared.turn.SeatFault.TheVariants.{NoSeat};
 ghost use Rattle.sx_book.specs.Passes.{PassView, StandsIn, MayAsk, HoldsSession, Appends, AppendsNone, SawMore};
 ghost use Rattle.sx_book.specs.Passes.{GrowsByOthers, IsSamePass, KeepsSessions, KeepsOtherSessions, pass_after_look};
 ghost use Rattle.sx_book.specs.Passes.{NumbersBelow, NumbersDiffer, OwnsAllNumbers, OwnsEachSeen, first_pass};
 ghost use Rattle.sx_book.specs.Passes.{new_pass, pass_pairs, after_meet, HasExactPlaces, caller_of, session_or_0};
-ghost use Rattle.sx_book.specs.Passes.{entries_from};
+ghost use Rattle.sx_book.specs.Passes.{entries_from, start_of};
 
 use crate::append::append_call;
 use crate::book::Book;
@@ -26,8 +26,8 @@ use std::alloc::Global;
 use std::marker::Model;
 use std::sync::Wait;
 use sx_base::Items;
+use sx_call::{Call, Noted, Reply, SmbReply, Start, Stop};
 use sx_memory::NoMemory;
-use sx_stage_call::{Call, Noted, Reply, SmbReply, Stop};
 use sx_turn::{CloseFault, SeatFault, Turn};
 
 /// One book, and the turn in which its passes ask it. There are at most 64 passes, numbered 0 to 63.
@@ -121,17 +121,17 @@ impl Office {
     ) -> Result<(Session, Receipt), Stop>
         requires own { pass.old.office ≡ self.now }
         requires clock { now ≤ greatest_moment }
-        ensures ok { IfOk result (λ t. Appends pass.old 0 now 0 (Call.Start peer) t.1 pass.new) }
+        ensures ok { IfOk result (λ t. Appends pass.old 0 now 0 (start_of peer) t.1 pass.new) }
         ensures session { IfOk result (λ t. HoldsSession pass.new t.0 × (t.1.reply ≡ Smb (Started t.0))) }
 
         // The session is none of those that the pass held.
         ensures other { IfOk result (λ t. (s : ℕ) → HoldsSession pass.old s → s ≢ t.0) }
 
-        ensures stop { IfErr result (λ s. AppendsNone pass.old (Call.Start peer) s pass.new) }
+        ensures stop { IfErr result (λ s. AppendsNone pass.old (start_of peer) s pass.new) }
         ensures held { KeepsSessions pass.old pass.new }
         ensures same { IsSamePass pass.old pass.new }
     {
-        let receipt = match self.append_in_turn(rt, pass, 0, now, 0, Call::Start { peer }) {
+        let receipt = match self.append_in_turn(rt, pass, 0, now, 0, Call::Start(Start { peer })) {
             Ok(receipt) => receipt,
             Err(stop) => return Err(stop),
         };

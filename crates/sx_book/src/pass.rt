@@ -3,7 +3,7 @@ ghost use Rattle.std.specs.Prelude.{◌≡◌};
 
 use crate::book::Book;
 use std::marker::Model;
-use sx_stage_call::{Noted, Reply};
+use sx_call::{Noted, Reply};
 use sx_turn::{Booked, Seat};
 
 impl Booked for Book {

@@ -4,8 +4,8 @@ ghost use Rattle.sx_book.specs.Passes.{entries_from};
 
 use std::alloc::Global;
 use sx_base::Items;
+use sx_call::Noted;
 use sx_memory::NoMemory;
-use sx_stage_call::Noted;
 
 /// Entries from a place on, copied, at most so many. Place 0 counts as 1.
 pub(crate) fn copy_from(

@@ -1,15 +1,16 @@
 //! The book alone: entries that stand in no session, and the history's limit. Calls in a session are tested by the
 //! door.
 ghost use Rattle.std.specs.Prelude.{◌≡◌, true};
-ghost use Rattle.sx_stage_spec.specs.Account.{empty};
-ghost use Rattle.sx_stage_spec.specs.History.{is_in_session};
+ghost use Rattle.sx_spec.specs.Account.{empty};
+ghost use Rattle.sx_spec.specs.History.{stands_in};
 
 use std::alloc::Global;
 use std::process::Abort;
 use sx_base::GREATEST_MOMENT;
 use sx_book::{Book, Stop};
-use sx_names::{Quota, ShareName};
-use sx_stage_call::{Call, Entry, Noted, Refusal, Reply, SmbReply};
+use sx_call::{Call, CreateShare, Entry, Noted, Refusal, Reply, SmbReply, Start};
+use sx_moment::ClockMoment;
+use sx_names::{Meta, Quota, ShareName};
 
 fn share(rt: &impl Abort, alloc: Global, name: &str) -> ShareName {
     match ShareName::read(alloc, name.as_bytes()) {
@@ -27,14 +28,15 @@ fn create(
     name: &str,
 ) -> Result<Reply, Stop> {
     assert!(rt; book.last_moment() <= at && at <= GREATEST_MOMENT);
-    let call = Call::CreateShare {
+    let call = Call::CreateShare(CreateShare {
         share: share(rt, alloc, name),
         quota: Quota::of(1),
-    };
+        meta: Meta::new(alloc),
+    });
     book.step(Entry {
         who: 3,
         session: 0,
-        at,
+        at: ClockMoment::of(at),
         fresh: 0,
         call,
     })
@@ -46,16 +48,16 @@ fn start(rt: &impl Abort, book: &mut Book, at: u64) -> Result<Reply, Stop> {
     book.step(Entry {
         who: 3,
         session: 0,
-        at,
+        at: ClockMoment::of(at),
         fresh: 0,
-        call: Call::Start { peer: 7 },
+        call: Call::Start(Start { peer: 7 }),
     })
 }
 
 /// Makes a share.
 fn makes(rt: &impl Abort, alloc: Global, book: &mut Book, at: u64, name: &str) {
     let answer = create(rt, alloc, book, at, name);
-    assert!(rt; matches!(answer, Ok(Reply::Created)), "{name}");
+    assert!(rt; matches!(answer, Ok(Reply::Stamped { .. })), "{name}");
 }
 
 /// Finds the share's name taken.

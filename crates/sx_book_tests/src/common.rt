@@ -7,8 +7,9 @@ use std::process::Abort;
 use std::sync::Wait;
 use sx_base::Items;
 use sx_book::{Book, Office, Pass, Receipt, Session, Stop};
-use sx_names::{Part, Path, Quota, ShareName};
-use sx_stage_call::{Access, Call, How, Mode, Noted, Reply, SmbReply};
+use sx_call::{Call, CreateShare, How, NamedPath, Noted, OpenAccess, Reply, SmbOpen, SmbReply};
+use sx_guard::{Access, Mode};
+use sx_names::{Meta, Part, Path, Quota, ShareName};
 
 pub(crate) const NOW: u64 = 16_409_952_000_000_000;
 
@@ -39,10 +40,11 @@ pub(crate) fn create<R: Abort + Wait>(
     ensures held { KeepsSessions pass.old pass.new }
     ensures same { IsSamePass pass.old pass.new }
 {
-    let call = Call::CreateShare {
+    let call = Call::CreateShare(CreateShare {
         share: share_name(rt, alloc),
         quota: Quota::of(5120),
-    };
+        meta: Meta::new(alloc),
+    });
     office.ask(rt, pass, NOW, 17, None, call)
 }
 
@@ -125,6 +127,39 @@ pub(crate) fn file_path(alloc: Global, who: u32, file: u32) -> Option<Path> {
     Some(path)
 }
 
+// The call that makes and opens a caller's file.
+fn opening(alloc: Global, who: u32, file: u32) -> Option<SmbOpen> {
+    let Some(path) = file_path(alloc, who, file) else {
+        return None;
+    };
+    let Some(path) = NamedPath::of(path) else {
+        return None;
+    };
+    let Ok(share) = ShareName::read(alloc, b"data") else {
+        return None;
+    };
+    let both = Access {
+        read: true,
+        write: true,
+        delete: false,
+    };
+    let Some(access) = OpenAccess::of(both, false) else {
+        return None;
+    };
+    Some(SmbOpen {
+        share,
+        path,
+        access,
+        mode: Mode {
+            read: true,
+            write: true,
+            delete: true,
+        },
+        how: How::Create,
+        dir: false,
+    })
+}
+
 // Makes a file of the pass's in one of its sessions. Answers whether it was made.
 pub(crate) fn make_file<R: Wait>(
     rt: &R,
@@ -139,27 +174,10 @@ pub(crate) fn make_file<R: Wait>(
     ensures held { HoldsSession pass.new session.now }
     ensures same { IsSamePass pass.old pass.new }
 {
-    let Some(path) = file_path(alloc, pass.number(), file) else {
+    let Some(open) = opening(alloc, pass.number(), file) else {
         return false;
     };
-    let Ok(share) = ShareName::read(alloc, b"data") else {
-        return false;
-    };
-    let call = Call::SmbOpen {
-        share,
-        path,
-        access: Access {
-            read: true,
-            write: true,
-            delete: false,
-        },
-        mode: Mode {
-            read: true,
-            write: true,
-            delete: true,
-        },
-        how: How::Create,
-    };
+    let call = Call::SmbOpen(open);
     match office.ask(rt, pass, NOW, 17, Some(session), call) {
         Ok(receipt) => matches!(
             receipt.reply,

@@ -7,11 +7,11 @@ use std::alloc::Global;
 use std::process::Abort;
 use std::sync::Wait;
 use sx_book::{CloseFault, Office, Pass, SeatFault, Stop};
-use sx_stage_call::{Call, Noted, Reply, SmbReply};
+use sx_call::{Call, Noted, Reply, SmbReply};
 
 // An entry of Create Share with the random number 17, which was carried out.
 fn is_creation(noted: &Noted) -> bool {
-    matches!(&noted.entry.call, Call::CreateShare { .. })
+    matches!(&noted.entry.call, Call::CreateShare(_))
         && noted.entry.fresh == 17
         && !noted.refused
 }
@@ -23,7 +23,7 @@ fn the_first_entry(rt: HostRuntime) {
     let receipt = created(&rt, alloc, &office, &mut pass);
     assert_eq!(rt; receipt.place, 1);
     assert_eq!(rt; receipt.at, NOW);
-    assert!(rt; matches!(receipt.reply, Reply::Created));
+    assert!(rt; matches!(receipt.reply, Reply::Stamped { .. }));
     let first = tail_of(&rt, alloc, &office, &mut pass, 0, 1);
     assert_eq!(rt; first.len(), 1);
     assert!(rt; first.as_slice().iter().all(is_creation));

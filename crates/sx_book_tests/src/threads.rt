@@ -7,8 +7,8 @@ use std::process::Abort;
 use std::sync::Wait;
 use std::thread::{Threads, join_mut};
 use sx_book::{Book, Office, Pass};
+use sx_call::{Call, Noted};
 use sx_names::Path;
-use sx_stage_call::{Call, Noted};
 
 // A pass, and whether one of its calls found no memory or no place.
 struct Lane {
@@ -75,8 +75,8 @@ fn land<R: Abort>(rt: &R, office: &Office, main: &mut Pass, lane: Lane)
 // Whether an entry is the one of this count of a caller's: its start, its hundred files in their order, its end.
 fn is_in_order(alloc: Global, noted: &Noted, who: u32, count: u32) -> bool {
     match &noted.entry.call {
-        Call::Start { .. } => count == 0,
-        Call::SmbOpen { path, .. } => is_file(alloc, path, who, count.wrapping_sub(1)),
+        Call::Start(_) => count == 0,
+        Call::SmbOpen(open) => is_file(alloc, open.path.path(), who, count.wrapping_sub(1)),
         Call::End => count == 101,
         _ => false,
     }

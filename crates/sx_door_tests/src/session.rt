@@ -5,13 +5,12 @@ use std::process::Abort;
 use std::sync::Wait;
 use sx_base::{MemLink, MemSink, MemSource, StepClock};
 use sx_book::{Book, ConnEnd, ConnReport, Full, Office};
-use sx_names::ShareName;
 use sx_smb_door::serve_session;
 
 /// No call fails.
 const NONE: u64 = 1_000_000;
 
-/// A session on a share that is absent: what it is given, and what comes of it.
+/// A session in an office without shares: what it is given, and what comes of it.
 struct Row {
     limit: u32,
     budget: u64,
@@ -29,7 +28,7 @@ struct Row {
     entries: usize,
 }
 
-const ROWS: [Row; 13] = [
+const ROWS: [Row; 17] = [
     Row {
         limit: 10,
         budget: 1_000,
@@ -51,7 +50,7 @@ const ROWS: [Row; 13] = [
         chunk: 100,
         read: NONE,
         put: NONE,
-        out: b"ERR NOT_BUILT\nERR NOT_BUILT\nERR NOT_BUILT\nERR NOT_BUILT\nERR NOT_BUILT\nERR NOT_BUILT\n",
+        out: b"ERR SYNTAX 0\nERR SYNTAX 0\nERR SYNTAX 0\nERR SYNTAX 6\nERR SYNTAX 6\nERR SYNTAX 6\n",
         end: ConnEnd::Ended,
         taken: 62,
         asked: 0,
@@ -224,21 +223,73 @@ const ROWS: [Row; 13] = [
         full: None,
         entries: 0,
     },
+    Row {
+        limit: 10,
+        budget: 1_000,
+        input: b"close 1\nquit\nclose 1\n",
+        chunk: 100,
+        read: NONE,
+        put: NONE,
+        out: b"ERR INVALID_HANDLE 2 handle 1.1\nOK 3 end 0\n",
+        end: ConnEnd::Closed { at: None },
+        taken: 13,
+        asked: 1,
+        full: None,
+        entries: 3,
+    },
+    Row {
+        limit: 10,
+        budget: 1_000,
+        input: b"quit \nclose 1 \nquit\r\n",
+        chunk: 5,
+        read: NONE,
+        put: NONE,
+        out: b"ERR SYNTAX 5\nERR SYNTAX 8\nOK 2 end 0\n",
+        end: ConnEnd::Closed { at: None },
+        taken: 21,
+        asked: 0,
+        full: None,
+        entries: 2,
+    },
+    Row {
+        limit: 10,
+        budget: 1_000,
+        input: b"lock 1 0 1 shared\nquit\n",
+        chunk: 100,
+        read: NONE,
+        put: 3,
+        out: b"ERR INVALID_HANDLE 2 handle 1.1\n",
+        end: ConnEnd::WriteFault,
+        taken: 23,
+        asked: 1,
+        full: None,
+        entries: 3,
+    },
+    Row {
+        limit: 3,
+        budget: 1_000,
+        input: b"close 1\nclose 1\nquit\n",
+        chunk: 100,
+        read: NONE,
+        put: NONE,
+        out: b"ERR INVALID_HANDLE 2 handle 1.1\nERR HISTORY_FULL 2 1 3\nOK 3 end 0\n",
+        end: ConnEnd::Closed { at: None },
+        taken: 21,
+        asked: 2,
+        full: Some(Full {
+            entries: 2,
+            sessions: 1,
+            limit: 3,
+        }),
+        entries: 3,
+    },
 ];
-
-fn share(rt: &impl Abort, alloc: Global) -> ShareName {
-    match ShareName::read(alloc, b"data") {
-        Ok(name) => name,
-        Err(_) => panic!(rt; "data is no name of a share"),
-    }
-}
 
 /// Serves a session through an office of its own, which is closed behind it.
 fn served<R: Abort + Wait>(
     rt: &R,
     alloc: Global,
     limit: u32,
-    share: &ShareName,
     link: &mut MemLink,
     budget: u64,
 ) -> (ConnReport, Book) {
@@ -247,7 +298,7 @@ fn served<R: Abort + Wait>(
     };
     let mut clock = StepClock { at: 5, step: 1 };
     let report = serve_session(
-        alloc, rt, &office, &mut pass, share, link, &mut clock, budget,
+        alloc, rt, &office, &mut pass, link, &mut clock, budget,
     );
     match office.close(rt, pass) {
         Ok(book) => (report, book),
@@ -286,9 +337,9 @@ fn check_book(rt: &impl Abort, book: &Book, entries: usize) {
     assert_eq!(rt; book.live(), 0);
 }
 
-fn check_row<R: Abort + Wait>(rt: &R, alloc: Global, share: &ShareName, number: usize, row: &Row) {
+fn check_row<R: Abort + Wait>(rt: &R, alloc: Global, number: usize, row: &Row) {
     let mut link = link_of(rt, alloc, row);
-    let (report, book) = served(rt, alloc, row.limit, share, &mut link, row.budget);
+    let (report, book) = served(rt, alloc, row.limit, &mut link, row.budget);
     assert_eq!(rt; report, wanted_report(row), "at {number}");
     assert!(rt; link.sink.bytes() == row.out, "at {number}");
     check_book(rt, &book, row.entries);
@@ -296,9 +347,8 @@ fn check_row<R: Abort + Wait>(rt: &R, alloc: Global, share: &ShareName, number: 
 
 #[test]
 fn sessions_end(rt: HostRuntime) {
-    let share = share(&rt, rt.alloc());
     for (number, row) in ROWS.iter().enumerate() {
-        check_row(&rt, rt.alloc(), &share, number, row);
+        check_row(&rt, rt.alloc(), number, row);
     }
 }
 
@@ -317,9 +367,8 @@ fn long_link(rt: &impl Abort, alloc: Global) -> MemLink {
 #[test]
 fn long_lines_close(rt: HostRuntime) {
     let alloc = rt.alloc();
-    let share = share(&rt, alloc);
     let mut link = long_link(&rt, alloc);
-    let (report, book) = served(&rt, alloc, 10, &share, &mut link, 1_099_511_627_776);
+    let (report, book) = served(&rt, alloc, 10, &mut link, 1_099_511_627_776);
     assert_eq!(rt; report.end, ConnEnd::Closed { at: Some(8) });
     assert_eq!(rt; report.taken, 8);
     let wanted = b"ERR INVALID_HANDLE 2 handle 1.1\nERR LINE 2097408\n".as_slice();

@@ -7,7 +7,6 @@ use std::sync::Wait;
 use std::thread::{Threads, join_mut};
 use sx_base::{MemLink, MemSink, MemSource, StepClock};
 use sx_book::{Book, ConnEnd, ConnReport, Office, Pass};
-use sx_names::ShareName;
 use sx_smb_door::serve_session;
 
 /// How many lines each session has, and how many bytes they are.
@@ -20,13 +19,6 @@ struct Lane {
     pass: Pass,
     link: MemLink,
     report: Option<ConnReport>,
-}
-
-fn share(rt: &impl Abort, alloc: Global) -> ShareName {
-    match ShareName::read(alloc, b"data") {
-        Ok(name) => name,
-        Err(_) => panic!(rt; "no name"),
-    }
 }
 
 /// A link with fifty lines, each of which closes a handle that isn't there.
@@ -67,7 +59,7 @@ fn new_lane<R: Abort + Wait>(rt: &R, office: &Office, main: &mut Pass, link: Mem
 }
 
 /// Serves the lane's session.
-fn run_lane<R: Wait>(rt: &R, alloc: Global, office: &Office, share: &ShareName, lane: &mut Lane)
+fn run_lane<R: Wait>(rt: &R, alloc: Global, office: &Office, lane: &mut Lane)
     requires own { lane.old.pass.office ≡ office.now }
     ensures same { lane.new.pass.office ≡ office.now }
 {
@@ -77,7 +69,6 @@ fn run_lane<R: Wait>(rt: &R, alloc: Global, office: &Office, share: &ShareName, 
         rt,
         office,
         &mut lane.pass,
-        share,
         &mut lane.link,
         &mut clock,
         1_000_000,
@@ -90,7 +81,6 @@ fn run_lanes<R: Threads + Wait + Sync>(
     rt: &R,
     alloc: Global,
     office: &Office,
-    share: &ShareName,
     first: &mut Lane,
     second: &mut Lane,
 )
@@ -99,8 +89,8 @@ fn run_lanes<R: Threads + Wait + Sync>(
 {
     join_mut(
         rt,
-        &mut || run_lane(rt, alloc, office, share, first),
-        &mut || run_lane(rt, alloc, office, share, second),
+        &mut || run_lane(rt, alloc, office, first),
+        &mut || run_lane(rt, alloc, office, second),
     );
 }
 
@@ -135,11 +125,10 @@ fn closed<R: Abort + Wait>(rt: &R, office: Office, main: Pass) -> Book
 #[test]
 fn two_sessions_at_once(rt: HostRuntime) {
     let alloc = rt.alloc();
-    let share = share(&rt, alloc);
     let (office, mut main) = begun(&rt, alloc);
     let mut first = new_lane(&rt, &office, &mut main, link(&rt, alloc, 3));
     let mut second = new_lane(&rt, &office, &mut main, link(&rt, alloc, 64));
-    run_lanes(&rt, alloc, &office, &share, &mut first, &mut second);
+    run_lanes(&rt, alloc, &office, &mut first, &mut second);
     land(&rt, &office, &mut main, first);
     land(&rt, &office, &mut main, second);
     let book = closed(&rt, office, main);

@@ -7,7 +7,7 @@ use Rattle.std.proofs.Math.Seq.{take-append-le}
 use Rattle.std.proofs.lemmas.List.{append-nil}
 use Rattle.std.proofs.lemmas.List.Quantifiers.{position-Some}
 use Rattle.sx_base.proofs.Streams.{keeps_same, keeps_more, consumes_held, consumes_kept, end_kept}
-use Rattle.sx_smb_door.specs.Limits.{line_limit}
+use Rattle.sx_lines.specs.declared.line.TheConstants.{LINE_LIMIT}
 use Rattle.sx_smb_door.specs.LineReaderView.{LineReaderView}
 use Rattle.sx_smb_door.specs.Lines.{is_line_end, IsOneLine, BeginsUnended, IsCutLine, with_line_feed, line_stream, GivesLine, KeepsStream, IsReason, IsNextLine, HasReadCause, WantsMore}
 use Rattle.sx_smb_door.specs.declared.lines.NextLine.{NextLine}
@@ -49,11 +49,11 @@ told_front (Some xs) (Some ys) held n h k =
     subst Q h (omega (arith, k.0, length-append held ys), subst P (sym front) k.1)
 
 -- that a line is over its limit
-pub long_answered : (reader : LineReaderView) (left : Option (List ℕ)) (n : ℕ) → BeginsUnended (line_limit + 1) reader.held → IsNextLine (Long reader.taken) reader reader left left n n
-long_answered reader left n h = (stays_same reader left, (told_front (line_stream reader left) left reader.held (line_limit + 1) (keeps_same (line_stream reader left)) h, h, refl))
+pub long_answered : (reader : LineReaderView) (left : Option (List ℕ)) (n : ℕ) → BeginsUnended (LINE_LIMIT + 1) reader.held → IsNextLine (Long reader.taken) reader reader left left n n
+long_answered reader left n h = (stays_same reader left, (told_front (line_stream reader left) left reader.held (LINE_LIMIT + 1) (keeps_same (line_stream reader left)) h, h, refl))
 
 -- that a line is given
-pub line_given : (old new : LineReaderView) (line : List ℕ) (i : ℕ) (left : Option (List ℕ)) → position is_line_end old.held ≡ Some i → i ≤ line_limit → line ≡ take i old.held
+pub line_given : (old new : LineReaderView) (line : List ℕ) (i : ℕ) (left : Option (List ℕ)) → position is_line_end old.held ≡ Some i → i ≤ LINE_LIMIT → line ≡ take i old.held
     → new ≡ record { held = drop (i + 1) old.held; taken = old.taken + i + 1; budget = old.budget } → new.taken + length new.held ≤ new.budget → GivesLine line old new left left
 line_given old new line i left e short is now within =
     let at = position-Some is_line_end old.held i 0 e in
@@ -86,7 +86,7 @@ pub reason_kept : (next : NextLine) (reader : LineReaderView) (a b : Option (Lis
 reason_kept (Line line) reader a b before mid now h le k = k
 reason_kept End reader a b before mid now h le k = (end_kept a b h k.0, k.1, k.2)
 reason_kept (Cut n) reader a b before mid now h le k = (told_kept (IsCutLine n) a b h k.0, k.1, k.2, k.3, k.4)
-reason_kept (Long at) reader a b before mid now h le k = (told_kept (BeginsUnended (line_limit + 1)) a b h k.0, k.1, k.2)
+reason_kept (Long at) reader a b before mid now h le k = (told_kept (BeginsUnended (LINE_LIMIT + 1)) a b h k.0, k.1, k.2)
 reason_kept Spent reader a b before mid now h le k = (told_kept (BeginsUnended (reader.budget - reader.taken)) a b h k.0, k.1, k.2, k.3)
 reason_kept ReadFault reader a b before mid now h le k = (omega (arith, le, k.0), k.1)
 reason_kept NoMemory reader a b before mid now h le k = k

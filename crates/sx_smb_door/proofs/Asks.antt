@@ -1,135 +1,69 @@
 -- What a session's calls get from an office, and that their replies have lines.
-use Rattle.std.proofs.Common.{ℕ, ◌+◌, ◌≡◌, ◌⊎◌, Bool, true, false, cond, List, [], ◌∷◌, Option, Some, None, length, ◌<◌, refl, ap, ◌∙◌, inl, inr, subst}
-use Rattle.sx_stage_call.specs.declared.call.Call.{Call}
-use Rattle.sx_stage_call.specs.declared.call.Call.TheVariants.{CreateShare, Start, End, SmbOpen, SmbClose, SmbRead}
-use Rattle.sx_stage_call.specs.declared.call.Call.TheVariants.{SmbWrite}
-use Rattle.sx_stage_call.specs.declared.call.Entry.{Entry}
-use Rattle.sx_stage_call.specs.declared.call.How.{How}
-use Rattle.sx_stage_call.specs.declared.call.How.TheVariants.{Existing, Create}
-use Rattle.sx_stage_call.specs.declared.held.Open.{Open}
-use Rattle.sx_stage_call.specs.declared.reply.Refusal.{Refusal}
-use Rattle.sx_stage_call.specs.declared.reply.Refusal.TheVariants as refusal
-use Rattle.sx_stage_call.specs.declared.reply.Stop.{Stop}
-use Rattle.sx_stage_call.specs.declared.reply.Stop.TheVariants.{NoMemory, HistoryFull}
-use Rattle.sx_stage_tree.specs.declared.node.Found.{Found}
-use Rattle.sx_stage_tree.specs.declared.node.Found.TheVariants as found
-use Rattle.sx_stage_tree.specs.declared.node.Node.{Node}
-use Rattle.sx_stage_tree.specs.Files.{is_directory}
-use Rattle.sx_stage_spec.specs.Account.{Account, open_of, place_of, node_in}
-use Rattle.sx_stage_spec.specs.FirstRefusal.{first_refusal, first_open_refusal, first_of, share_check, parent_check, node_found, kind_found, file_wanted, handle_check}
-use Rattle.sx_stage_spec.specs.Step.{step, outcome, replay, reply_to, open_reply, open_reply_at}
+use Rattle.std.proofs.Common.{ℕ, ◌+◌, ◌≡◌, true, false, [], ◌∷◌, refl, ap, ◌∙◌}
+use Rattle.sx_answers.specs.SessionReply.{is_session_door, is_session_reply}
+use Rattle.sx_call.specs.Calls.{door_of}
+use Rattle.sx_call.specs.declared.calls.Call.{Call}
+use Rattle.sx_call.specs.declared.entries.Entry.{Entry}
+use Rattle.sx_call.specs.declared.refusals.Stop.{Stop}
+use Rattle.sx_call.specs.declared.refusals.Stop.TheVariants.{NoMemory, HistoryFull}
+use Rattle.sx_call.specs.declared.replies.Reply.{Reply}
+use Rattle.sx_call.specs.declared.replies.Reply.TheVariants as reply
+use Rattle.sx_spec.specs.Account.{Account}
+use Rattle.sx_spec.specs.Step.{step, replay}
 use Rattle.sx_book.specs.OneHistory.{appended, history_full, no_memory}
 use Rattle.sx_book.specs.Passes.{PassView, HoldsSession, Appends, AppendsNone, entry_behind}
 use Rattle.sx_book.specs.declared.pass.Receipt.{Receipt}
 use Rattle.sx_book.proofs.Calls.{appended_asks, full_asks, starved_asks}
+use Rattle.sx_lines.specs.Answers.{has_line}
+use Rattle.sx_lines.specs.declared.answer.LineAnswer.{LineAnswer}
+use Rattle.sx_lines.specs.declared.answer.LineAnswer.TheVariants.{Core, Stop as Stopped}
 use Rattle.sx_smb_door.specs.Asking.{DoorState, IsAsked, tally_with_stop}
-use Rattle.sx_smb_door.specs.Answer.{has_line, has_word, is_printed}
-use Rattle.sx_smb_door.specs.Parse.{is_session_call}
-use Rattle.sx_smb_door.specs.declared.answer.LineAnswer.{LineAnswer}
-use Rattle.sx_smb_door.specs.declared.answer.LineAnswer.TheVariants.{Core, Stop as Stopped}
+use Rattle.sx_smb_door.specs.Conversation.{is_lock}
 
+-- ---- its reply has a line
 false_true : false ≡ true → ⊥
 false_true e = cc
 
--- ---- its reply has a line
-HasWord : Option Refusal → Type 0
-HasWord None = Unit {0}
-HasWord (Some r) = has_word r ≡ true
+has_line_by : (r : Reply) → is_session_reply r ≡ true → has_line r ≡ true
+has_line_by (reply.Refused refusal) h = h
+has_line_by (reply.Smb answer) h = refl
+has_line_by (reply.Stamped status stamp) h = absurd (false_true h)
+has_line_by (reply.Made status stamp facts) h = absurd (false_true h)
+has_line_by reply.Gone h = absurd (false_true h)
+has_line_by (reply.Snapped moment stamp) h = absurd (false_true h)
+has_line_by (reply.ShareFacts stamp quota _ meta) h = absurd (false_true h)
+has_line_by (reply.Metas stamp meta) h = absurd (false_true h)
+has_line_by (reply.DirFacts stamp facts meta) h = absurd (false_true h)
+has_line_by (reply.FileFacts stamp length content facts _ meta) h = absurd (false_true h)
+has_line_by (reply.FileBytes stamp part content facts _ meta) h = absurd (false_true h)
+has_line_by (reply.Listed body) h = absurd (false_true h)
+has_line_by (reply.RangesListed stamp length body) h = absurd (false_true h)
+has_line_by (reply.LeaseDone status stamp id) h = absurd (false_true h)
+has_line_by (reply.HandlesClosed n) h = absurd (false_true h)
 
-first_word : (c : Option Refusal) (rest : List (Option Refusal)) → HasWord c → HasWord (first_of rest) → HasWord (first_of (c ∷ rest))
-first_word None rest h k = k
-first_word (Some r) rest h k = h
+-- each reply to a call of the session's door can be printed
+abbrev pub PrintsSessions : Type 0
+PrintsSessions = (a : Account) (e : Entry) → is_session_door (door_of e.call) ≡ true → is_session_reply (step a e).1 ≡ true
 
-share_word : (p : Option (ℕ × Found)) → HasWord (share_check p)
-unfolding HasWord
-share_word None = refl
-share_word (Some p) = tt
-
-parent_word : (f : Found) (n : ℕ) → HasWord (parent_check (Some (n, f)))
-unfolding HasWord
-parent_word (found.Node id) n = tt
-parent_word (found.Missing parent) n = tt
-parent_word (found.NoParent parts) n = refl
-
-node_word : (how : How) (f : Found) → HasWord (node_found how f)
-unfolding HasWord
-node_word Existing (found.Node id) = tt
-node_word Existing (found.Missing parent) = refl
-node_word Existing (found.NoParent parts) = tt
-node_word Create (found.Node id) = refl
-node_word Create (found.Missing parent) = tt
-node_word Create (found.NoParent parts) = tt
-
-wanted_word : (id : ℕ) (n : Option Node) → HasWord (file_wanted id n)
-unfolding HasWord
-wanted_word id None = tt
-wanted_word id (Some node) = elim (is_directory node.kind) as (λ b. HasWord (cond b (Some (refusal.IsDirectory id)) None)) [ true ↦ refl | false ↦ tt ]
-
-kind_word : (a : Account) (n : ℕ) (f : Found) → HasWord (kind_found a n f)
-unfolding HasWord
-kind_word a n (found.Node id) = wanted_word id (node_in a.shares n id)
-kind_word a n (found.Missing parent) = tt
-kind_word a n (found.NoParent parts) = tt
-
-open_word : (a : Account) (how : How) (p : Option (ℕ × Found)) → HasWord (first_open_refusal a how p)
-unfolding HasWord
-open_word a how None = refl
-open_word a how (Some p) = first_word (parent_check (Some p)) _ (parent_word p.1 p.0) (first_word (node_found how p.1) _ (node_word how p.1) (first_word (kind_found a p.0 p.1) [] (kind_word a p.0 p.1) tt))
-
-handle_word : (s index : ℕ) (o : Option Open) → HasWord (handle_check s index o)
-unfolding HasWord
-handle_word s index None = refl
-handle_word s index (Some o) = tt
-
-refusal_word : (a : Account) (s : ℕ) (call : Call) → is_session_call call ≡ true → HasWord (first_refusal a s call)
-refusal_word a s (CreateShare share quota) h = absurd (false_true h)
-refusal_word a s (Start peer) h = absurd (false_true h)
-refusal_word a s End h = absurd (false_true h)
-refusal_word a s (SmbOpen share path x m how) h = open_word a how (place_of a share path)
-refusal_word a s (SmbClose index) h = handle_word s index (open_of a s index)
-refusal_word a s (SmbRead index from count) h = handle_word s index (open_of a s index)
-refusal_word a s (SmbWrite index update) h = handle_word s index (open_of a s index)
-
-found_line : (a : Account) (s n : ℕ) (f : Found) → has_line (open_reply_at a s n f) ≡ true
-found_line a s n (found.Node id) = refl
-found_line a s n (found.Missing parent) = refl
-found_line a s n (found.NoParent parts) = refl
-
-open_line : (a : Account) (s : ℕ) (p : Option (ℕ × Found)) → has_line (open_reply a s p) ≡ true
-open_line a s None = refl
-open_line a s (Some p) = found_line a s p.0 p.1
-
-said_line : (a : Account) (s : ℕ) (call : Call) → is_session_call call ≡ true → has_line (reply_to a s call) ≡ true
-said_line a s (CreateShare share quota) h = absurd (false_true h)
-said_line a s (Start peer) h = absurd (false_true h)
-said_line a s End h = absurd (false_true h)
-said_line a s (SmbOpen share path x m how) h = open_line a s (place_of a share path)
-said_line a s (SmbClose index) h = refl
-said_line a s (SmbRead index from count) h = refl
-said_line a s (SmbWrite index update) h = refl
-
-outcome_line : (a : Account) (w s at : ℕ) (call : Call) (r : Option Refusal) → is_session_call call ≡ true → HasWord r → has_line (outcome a w s at call r).1 ≡ true
-unfolding HasWord
-outcome_line a w s at call None h k = said_line a s call h
-outcome_line a w s at call (Some r) h k = k
-
--- the reply of a session's call has a line
-pub reply_line : (a : Account) (e : Entry) → is_session_call e.call ≡ true → has_line (step a e).1 ≡ true
-reply_line a e h = outcome_line a e.who e.session e.at e.call (first_refusal a e.session e.call) h (refusal_word a e.session e.call h)
+-- the reply of a receipt has a line
+pub receipt_line : PrintsSessions → (p q : PassView) (session moment fresh : ℕ) (call : Call) (r : Receipt) → is_session_door (door_of call) ≡ true → Appends p session moment fresh call r q → has_line r.reply ≡ true
+receipt_line law p q session moment fresh call r door took =
+    ap (λ (x : Receipt). has_line x.reply) took.receipt
+    ∙ has_line_by (step (replay took.log) (entry_behind took.log p.number session moment fresh call)).1 (law (replay took.log) (entry_behind took.log p.number session moment fresh call) door)
 
 -- ---- what an office answers
 -- a call that took a place
 pub appended_call : {C : Type 0} (ticks : C → ℕ → C → Type 0) (session : ℕ) (call : Call) (old new : DoorState C) (moment : ℕ) (r : Receipt)
-    → is_session_call call ≡ true → HoldsSession new.pass session → ticks old.clock moment new.clock → Appends old.pass session moment 0 call r new.pass → new.tally ≡ record old.tally { asked = old.tally.asked + 1 }
-    → IsAsked ticks session call old new (Core r.place r.reply)
-appended_call {C} ticks session call old new moment r h held told took counted = record {
+    → has_line r.reply ≡ true → HoldsSession new.pass session → ticks old.clock moment new.clock → Appends old.pass session moment 0 call r new.pass → new.tally ≡ record old.tally { asked = old.tally.asked + 1 }
+    → IsAsked ticks session call old new (Core r.place r.reply (is_lock call))
+appended_call {C} ticks session call old new moment r line held told took counted = record {
   moment = moment;
   came = appended r.place r.reply;
   calls = appended_asks old.pass new.pass session moment 0 call r took;
   told = told;
   tallied = counted;
   answer_is = refl;
-  printed = ap (λ (x : Receipt). has_line x.reply) took.receipt ∙ reply_line (replay took.log) (entry_behind took.log old.pass.number session moment 0 call) h;
+  printed = line;
   held = held;
 }
 

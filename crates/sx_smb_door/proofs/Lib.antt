@@ -1,7 +1,7 @@
 pub mod Asks
 pub mod Answering
 pub mod Ends
-pub mod Numbers
+pub mod Farewells
 pub mod SessionCalls
 pub mod Sessions
 pub mod Splits

@@ -1,5 +1,5 @@
 -- One line more in a session.
-use Rattle.std.proofs.Common.{ℕ, ◌+◌, ◌≤◌, ◌≡◌, true, List, [], ◌∷◌, ◌++◌, length, Option, Some, None, refl, sym, ap, ◌∙◌, subst, append_assoc, arith, length-append}
+use Rattle.std.proofs.Common.{ℕ, ◌+◌, ◌≤◌, ◌≡◌, true, List, [], ◌∷◌, ◌++◌, length, Option, Ok, Err, refl, sym, ap, ◌∙◌, subst, append_assoc, arith, length-append}
 use Rattle.std.specs.List.{AllByRecursion, flat_map}
 use Rattle.std.specs.Io.KnownBytes.{Consumes}
 use Rattle.std.proofs.lemmas.List.{append-nil}
@@ -7,19 +7,20 @@ use Rattle.std.proofs.lemmas.List.Concat.{flat_map-append}
 use Rattle.sx_base.specs.Clock.{StepsThrough}
 use Rattle.sx_base.proofs.Steps.{steps_append}
 use Rattle.sx_base.proofs.Streams.{consumes_more, consumes_none}
-use Rattle.sx_stage_call.specs.declared.call.Call.{Call}
-use Rattle.sx_stage_call.specs.declared.reply.Stop.TheVariants.{NoMemory}
+use Rattle.sx_call.specs.declared.calls.Call.{Call}
+use Rattle.sx_call.specs.declared.refusals.Stop.TheVariants.{NoMemory}
 use Rattle.sx_turn.proofs.Lists.{each_snoc}
 use Rattle.sx_book.specs.OneHistory.{Came, appended, history_full, no_memory, Outcome, Asks, moments_of}
 use Rattle.sx_book.specs.Passes.{PassView, HoldsSession}
 use Rattle.sx_book.proofs.Calls.{asks_none, asks_join}
 use Rattle.sx_smb_door.specs.Asking.{DoorState, caller_in, IsAsked, IsAnswered}
-use Rattle.sx_smb_door.specs.Conversation.{LineOutcome, not_a_call, not_parsed, called, AnsweredLine, IsAnsweredLine, Caller, calls_in, calls_of, answer_of, no_tally, tally_with, tally_after, tally_after_all, line_bytes, HasText, HasPrefix, HasBegun}
-use Rattle.sx_smb_door.specs.Limits.{line_limit}
+use Rattle.sx_smb_door.specs.Conversation.{LineOutcome, wrong_word, not_parsed, called, AnsweredLine, IsAnsweredLine, Caller, calls_in, calls_of, answer_of, no_tally, tally_with, tally_after, tally_after_all, line_bytes, HasText, HasPrefix, HasBegun}
+use Rattle.sx_lines.specs.Lines.{line_of}
+use Rattle.sx_lines.specs.declared.answer.LineAnswer.{LineAnswer}
+use Rattle.sx_lines.specs.declared.answer.LineAnswer.TheVariants.{Syntax, Stop as Stopped}
+use Rattle.sx_lines.specs.declared.line.Line.TheVariants.{Ask}
+use Rattle.sx_lines.specs.declared.line.TheConstants.{LINE_LIMIT}
 use Rattle.sx_smb_door.specs.Lines.{with_line_feed, IsOneLine}
-use Rattle.sx_smb_door.specs.Parse.{call_of}
-use Rattle.sx_smb_door.specs.declared.answer.LineAnswer.{LineAnswer}
-use Rattle.sx_smb_door.specs.declared.answer.LineAnswer.TheVariants.{NotBuilt, Stop as Stopped}
 use Rattle.sx_smb_door.specs.declared.tally.Tally.{Tally}
 
 pub tally_more : (w : Caller) (tally : Tally) (ts : List AnsweredLine) (t : AnsweredLine) → tally_after_all w tally (ts ++ t ∷ []) ≡ tally_after w (tally_after_all w tally ts) t.outcome
@@ -36,7 +37,7 @@ moments_join os us = flat_map-append (λ (o : Outcome). o.asked.now ∷ []) os u
 -- the lines that were answered so far, from one stream and state to another
 pub record Going {C : Type 0} (ticks : C → ℕ → C → Type 0) (w : Caller) (stream stream' : Option (List ℕ)) (old new : DoorState C) (taken : ℕ) : Type 0 where
   pub turns : List AnsweredLine
-  pub lines : AllByRecursion (IsAnsweredLine w.share) turns
+  pub lines : AllByRecursion IsAnsweredLine turns
   pub bytes : Consumes stream stream' (line_bytes turns)
   pub taken_is : taken ≡ length (line_bytes turns)
   pub calls : Asks old.pass new.pass (calls_of w turns)
@@ -56,12 +57,12 @@ going_none ticks w stream s taken none zero = record {
 }
 
 -- the caller of a session does not change with its calls
-pub same_caller : (session : ℕ) (share : List ℕ) (p q : PassView) (os : List Outcome) → Asks p q os → caller_in q session share ≡ caller_in p session share
-same_caller session share p q os a = ap (λ (x : PassView). caller_in x session share) a.pass
+pub same_caller : (session : ℕ) (p q : PassView) (os : List Outcome) → Asks p q os → caller_in q session ≡ caller_in p session
+same_caller session p q os a = ap (λ (x : PassView). caller_in x session) a.pass
 
 -- the lines with one more
 unfoldable pub going_more : {C : Type 0} (ticks : C → ℕ → C → Type 0) (w : Caller) (s0 s1 s2 : Option (List ℕ)) (a b c : DoorState C) (k1 k2 : ℕ) (line : List ℕ) (answer : LineAnswer)
-    → (g : Going ticks w s0 s1 a b k1) → IsOneLine line → length line ≤ line_limit → Consumes s1 s2 (with_line_feed line) → k2 ≡ k1 + length line + 1
+    → (g : Going ticks w s0 s1 a b k1) → IsOneLine line → length line ≤ LINE_LIMIT → Consumes s1 s2 (with_line_feed line) → k2 ≡ k1 + length line + 1
     → IsAnswered ticks w line b c answer → Going ticks w s0 s2 a c k2
 going_more {C} ticks w s0 s1 s2 a b c k1 k2 line answer g one short taken count last =
     let t : AnsweredLine = record { line = line; outcome = last.outcome } in
@@ -96,9 +97,9 @@ pub text_kept : (first second third : List ℕ → Type 0) (x : List ℕ) → Ha
 text_kept first second third x h keep m w = keep (m ++ x) (h m w)
 
 -- ---- a call that was asked is a line that was answered
-pub asked_line : {C : Type 0} (ticks : C → ℕ → C → Type 0) (session : ℕ) (share line : List ℕ) (call : Call) (old new : DoorState C) (answer : LineAnswer)
-    → call_of share line ≡ Some call → IsAsked ticks session call old new answer → IsAnswered ticks (caller_in old.pass session share) line old new answer
-asked_line {C} ticks session share line call old new answer is a = record {
+pub asked_line : {C : Type 0} (ticks : C → ℕ → C → Type 0) (session : ℕ) (line : List ℕ) (call : Call) (old new : DoorState C) (answer : LineAnswer)
+    → line_of line ≡ Ok (Ask call) → IsAsked ticks session call old new answer → IsAnswered ticks (caller_in old.pass session) line old new answer
+asked_line {C} ticks session line call old new answer is a = record {
   outcome = called call a.moment a.came;
   spells = is;
   calls = a.calls;
@@ -109,11 +110,11 @@ asked_line {C} ticks session share line call old new answer is a = record {
   held = a.held;
 }
 
--- a line that is not a call
-pub unasked_line : {C : Type 0} (ticks : C → ℕ → C → Type 0) (w : Caller) (line : List ℕ) (s : DoorState C) → call_of w.share line ≡ None → HoldsSession s.pass w.session → IsAnswered ticks w line s s NotBuilt
-unasked_line ticks w line s none held = record {
-  outcome = not_a_call;
-  spells = none;
+-- a line with a wrong word
+pub wrong_line : {C : Type 0} (ticks : C → ℕ → C → Type 0) (w : Caller) (line : List ℕ) (at : ℕ) (s : DoorState C) → line_of line ≡ Err at → HoldsSession s.pass w.session → IsAnswered ticks w line s s (Syntax at)
+wrong_line ticks w line at s wrong held = record {
+  outcome = wrong_word at;
+  spells = wrong;
   calls = asks_none s.pass;
   told = refl;
   tallied = refl;
@@ -142,6 +143,6 @@ came_after limit t no_memory = refl
 
 -- an outcome counts at most one call
 pub asked_after : (w : Caller) (t : Tally) (o : LineOutcome) → (tally_after w t o).asked ≤ t.asked + 1
-asked_after w t not_a_call = omega arith
+asked_after w t (wrong_word at) = omega arith
 asked_after w t not_parsed = omega arith
 asked_after w t (called call moment came) = omega (arith, came_after w.limit (record t { asked = t.asked + 1 }) came)

@@ -1,37 +1,39 @@
 -- What a session is answered, line after line, from its Start to its End.
-use Rattle.std.specs.Prelude.{ℕ, ◌+◌, ◌-◌, ◌<◌, ◌≤◌, ◌≡◌, ◌⊎◌, false, true, List, [], ◌∷◌, ◌++◌, length, IfSome}
-use Rattle.std.specs.Prelude.{Option, Some, None}
+use Rattle.std.specs.Prelude.{ℕ, ◌+◌, ◌-◌, ◌<◌, ◌≤◌, ◌≡◌, ◌⊎◌, false, true, Bool, List, [], ◌∷◌, ◌++◌, length, IfSome}
+use Rattle.std.specs.Prelude.{Option, Some, None, Ok, Err}
 use Rattle.std.specs.List.{AllByRecursion, flat_map}
 use Rattle.std.specs.Io.KnownBytes.{Consumes, IsAtEnd, Keeps, prepend_known}
 use mathlib.Core.List.{IsPrefix}
 use Rattle.sx_base.specs.Causes.{Rose}
 use Rattle.sx_base.specs.Clock.{StepsThrough}
 use Rattle.sx_base.specs.Sides.{Sides}
-use Rattle.sx_stage_call.specs.declared.call.Call.{Call}
-use Rattle.sx_stage_call.specs.declared.call.Call.TheVariants.{Start, End}
-use Rattle.sx_stage_call.specs.declared.reply.Reply.{Reply}
-use Rattle.sx_stage_call.specs.declared.reply.Reply.TheVariants.{Smb}
-use Rattle.sx_stage_call.specs.declared.reply.SmbReply.TheVariants.{Started}
-use Rattle.sx_stage_call.specs.declared.reply.Stop.{Stop as Stopped}
-use Rattle.sx_stage_call.specs.declared.reply.Stop.TheVariants as stop
-use Rattle.sx_stage_spec.specs.History.{History}
+use Rattle.sx_call.specs.declared.calls.Call.{Call}
+use Rattle.sx_call.specs.declared.calls.Call.TheVariants.{End, SmbLock}
+use Rattle.sx_call.specs.declared.replies.Reply.{Reply}
+use Rattle.sx_call.specs.declared.replies.Reply.TheVariants.{Smb}
+use Rattle.sx_call.specs.declared.replies.SmbReply.TheVariants.{Started}
+use Rattle.sx_call.specs.declared.refusals.Stop.{Stop as Stopped}
+use Rattle.sx_call.specs.declared.refusals.Stop.TheVariants as stop
+use Rattle.sx_book.specs.History.{History}
 use Rattle.sx_book.specs.OneHistory.{Came, appended, history_full, no_memory, Outcome, AreCallsIn, moments_of}
+use Rattle.sx_book.specs.Passes.{start_of}
 use Rattle.sx_book.specs.declared.report.Full.{Full}
 use Rattle.sx_book.specs.declared.report.ConnEnd.{ConnEnd}
 use Rattle.sx_book.specs.declared.report.ConnEnd.TheVariants as finish
 use Rattle.sx_book.specs.declared.report.ConnReport.{ConnReport}
-use Rattle.sx_smb_door.specs.Limits.{line_limit}
+use Rattle.sx_lines.specs.declared.line.TheConstants.{LINE_LIMIT}
+use Rattle.sx_lines.specs.declared.line.Line.TheVariants.{Ask, Quit}
+use Rattle.sx_lines.specs.Lines.{line_of}
+use Rattle.sx_lines.specs.Answers.{answer_line}
+use Rattle.sx_lines.specs.declared.answer.LineAnswer.{LineAnswer}
+use Rattle.sx_lines.specs.declared.answer.LineAnswer.TheVariants.{Core, Syntax, Long, Stop}
 use Rattle.sx_smb_door.specs.Lines.{with_line_feed, IsOneLine, IsCutLine, BeginsUnended}
-use Rattle.sx_smb_door.specs.Answer.{answer_text}
-use Rattle.sx_smb_door.specs.Parse.{call_of}
-use Rattle.sx_smb_door.specs.declared.answer.LineAnswer.{LineAnswer}
-use Rattle.sx_smb_door.specs.declared.answer.LineAnswer.TheVariants.{Core, NotBuilt, Long, Stop}
 use Rattle.sx_smb_door.specs.declared.tally.Tally.{Tally}
 
--- what came of a line: it is not a call; no memory was left to parse it; or its call was asked at a moment of the
--- clock, and came to this
+-- what came of a line: a word at this place isn't as it must be; no memory was left to parse it; or its call was asked
+-- at a moment of the clock, and came to this
 pub data LineOutcome : Type 0 where
-  not_a_call : LineOutcome
+  wrong_word : ℕ → LineOutcome
   not_parsed : LineOutcome
   called : Call → ℕ → Came → LineOutcome
 
@@ -40,24 +42,29 @@ pub record AnsweredLine : Type 0 where
   pub line : List ℕ
   pub outcome : LineOutcome
 
--- the caller of a session: its number, its session, the session's share, and how many places the history has
+-- the caller of a session: its number, its session, and how many places the history has
 pub record Caller : Type 0 where
   pub who : ℕ
   pub session : ℕ
-  pub share : List ℕ
   pub limit : ℕ
 
--- the line spells the call that was asked, or none
-abbrev pub Spells : List ℕ → List ℕ → LineOutcome → Type 0
-Spells share line not_a_call = call_of share line ≡ None
-Spells share line not_parsed = Unit {0}
-Spells share line (called call moment came) = call_of share line ≡ Some call
+-- the line spells the call that was asked, or its first wrong word stands at this place
+abbrev pub Spells : List ℕ → LineOutcome → Type 0
+Spells line (wrong_word at) = line_of line ≡ Err at
+Spells line not_parsed = Unit {0}
+Spells line (called call moment came) = line_of line ≡ Ok (Ask call)
 
--- a line within its limit, and what it spells in a session of this share
-pub record IsAnsweredLine (share : List ℕ) (t : AnsweredLine) : Type 0 where
+-- a line within its limit, and what it spells
+pub record IsAnsweredLine (t : AnsweredLine) : Type 0 where
   pub one : IsOneLine t.line
-  pub short : length t.line ≤ line_limit
-  pub spells : Spells share t.line t.outcome
+  pub short : length t.line ≤ LINE_LIMIT
+  pub spells : Spells t.line t.outcome
+
+-- a line within its limit that ends the session
+pub record IsQuit (line : List ℕ) : Type 0 where
+  pub one : IsOneLine line
+  pub short : length line ≤ LINE_LIMIT
+  pub quits : line_of line ≡ Ok Quit
 
 -- a call in a session, and what it came to; it draws no random number
 abbrev pub call_with : ℕ → ℕ → Call → ℕ → Came → Outcome
@@ -66,7 +73,7 @@ call_with who session call moment came =
 
 -- the call of a line, if it was asked
 abbrev pub calls_in : Caller → LineOutcome → List Outcome
-calls_in w not_a_call = []
+calls_in w (wrong_word at) = []
 calls_in w not_parsed = []
 calls_in w (called call moment came) = call_with w.who w.session call moment came ∷ []
 
@@ -74,17 +81,22 @@ calls_in w (called call moment came) = call_with w.who w.session call moment cam
 abbrev pub calls_of : Caller → List AnsweredLine → List Outcome
 calls_of w ts = flat_map (λ t. calls_in w t.outcome) ts
 
+-- whether a call locks bytes
+abbrev pub is_lock : Call → Bool
+is_lock (SmbLock c) = true
+is_lock other = false
+
 -- the answer to a call
-abbrev pub answer_to : ℕ → Came → LineAnswer
-answer_to limit (appended place reply) = Core place reply
-answer_to limit (history_full entries sessions) = Stop (stop.HistoryFull entries sessions limit)
-answer_to limit no_memory = Stop stop.NoMemory
+abbrev pub answer_to : ℕ → Call → Came → LineAnswer
+answer_to limit call (appended place reply) = Core place reply (is_lock call)
+answer_to limit call (history_full entries sessions) = Stop (stop.HistoryFull entries sessions limit)
+answer_to limit call no_memory = Stop stop.NoMemory
 
 -- the answer to a line of this outcome
 abbrev pub answer_of : Caller → LineOutcome → LineAnswer
-answer_of w not_a_call = NotBuilt
+answer_of w (wrong_word at) = Syntax at
 answer_of w not_parsed = Stop stop.NoMemory
-answer_of w (called call moment came) = answer_to w.limit came
+answer_of w (called call moment came) = answer_to w.limit call came
 
 -- nothing was asked yet
 abbrev pub no_tally : Tally
@@ -100,7 +112,7 @@ tally_with limit t no_memory = record t { no_memory = true }
 
 -- what a report counts, after a line
 abbrev pub tally_after : Caller → Tally → LineOutcome → Tally
-tally_after w t not_a_call = t
+tally_after w t (wrong_word at) = t
 tally_after w t not_parsed = record t { no_memory = true }
 tally_after w t (called call moment came) = tally_with w.limit (record t { asked = t.asked + 1 }) came
 
@@ -111,26 +123,36 @@ tally_after_all w tally (t ∷ ts) = tally_after_all w (tally_after w tally t.ou
 
 -- the printed answers to lines
 abbrev pub answers_to : Caller → List AnsweredLine → List ℕ
-answers_to w ts = flat_map (λ t. answer_text (answer_of w t.outcome)) ts
+answers_to w ts = flat_map (λ t. answer_line (answer_of w t.outcome)) ts
 
 -- the bytes of the lines, with their line feeds
 abbrev pub line_bytes : List AnsweredLine → List ℕ
 line_bytes ts = flat_map (λ t. with_line_feed t.line) ts
 
--- what was said in a session: the lines that were answered, how many bytes they have, how they ended, what the link had
--- left behind them, and which bytes of that were taken and not given
+-- the bytes of the line by which a session ended itself, if it did
+abbrev pub quit_bytes : Option (List ℕ) → List ℕ
+quit_bytes None = []
+quit_bytes (Some line) = with_line_feed line
+
+-- what was said in a session: the lines that were answered, the line `quit`, if that ended it, how many bytes they
+-- have, how they ended, what the link had left behind them, and which bytes of that were taken and not given
 pub record Talk : Type 0 where
   pub turns : List AnsweredLine
+  pub quit : Option (List ℕ)
   pub given : ℕ
   pub end : ConnEnd
   pub rest : Option (List ℕ)
   pub held : List ℕ
 
+-- the bytes of all lines that were given
+abbrev pub given_bytes : Talk → List ℕ
+given_bytes t = line_bytes t.turns ++ quit_bytes t.quit
+
 -- the lines were taken off the link, and what was taken in all is within the budget: what the link had left behind
 -- the lines is what was taken of it and not given, and what it has left
 pub record TakesLines (budget : ℕ) (t : Talk) (old new : Sides) : Type 0 where
-  pub lines : Consumes old.left t.rest (line_bytes t.turns)
-  pub given_is : t.given ≡ length (line_bytes t.turns)
+  pub lines : Consumes old.left t.rest (given_bytes t)
+  pub given_is : t.given ≡ length (given_bytes t)
   pub unread : Keeps t.rest (prepend_known t.held new.left)
   pub within : t.given + length t.held ≤ budget
 
@@ -138,21 +160,29 @@ pub record TakesLines (budget : ℕ) (t : Talk) (old new : Sides) : Type 0 where
 -- of failed reads and puts
 abbrev pub IsEnd : ConnEnd → ℕ → Talk → Sides → Sides → Type 0
 IsEnd finish.Ended budget t old new = IsAtEnd t.rest × (t.held ≡ []) × (t.given < budget)
-IsEnd (finish.Closed None) budget t old new = ⊥
+IsEnd (finish.Closed None) budget t old new = Unit {0}
 IsEnd (finish.Closed (Some at)) budget t old new =
-    IfSome t.rest (BeginsUnended (line_limit + 1)) × BeginsUnended (line_limit + 1) t.held × (at ≡ t.given)
+    IfSome t.rest (BeginsUnended (LINE_LIMIT + 1)) × BeginsUnended (LINE_LIMIT + 1) t.held × (at ≡ t.given)
 IsEnd (finish.Cut left) budget t old new =
-    IfSome t.rest (IsCutLine left) × IsCutLine left t.held × (1 ≤ left) × (left ≤ line_limit)
+    IfSome t.rest (IsCutLine left) × IsCutLine left t.held × (1 ≤ left) × (left ≤ LINE_LIMIT)
     × (t.given + left < budget)
 IsEnd finish.Spent budget t old new =
     IfSome t.rest (BeginsUnended (budget - t.given)) × IsCutLine (budget - t.given) t.held
-    × (t.given ≤ budget) × (budget ≤ t.given + line_limit)
+    × (t.given ≤ budget) × (budget ≤ t.given + LINE_LIMIT)
 IsEnd finish.ReadFault budget t old new =
-    Rose old.reads new.reads × IsOneLine t.held × (length t.held ≤ line_limit)
+    Rose old.reads new.reads × IsOneLine t.held × (length t.held ≤ LINE_LIMIT)
     × (t.given + length t.held < budget)
 IsEnd finish.WriteFault budget t old new = Rose old.writes new.writes
 IsEnd (finish.Full full) budget t old new = ⊥
 IsEnd finish.NoMemory budget t old new = Unit {0}
+
+-- `quit` ended the session: it closed without a fault of its lines, or the write of the last answer failed
+abbrev pub EndsByQuit : ConnEnd → Option (List ℕ) → Type 0
+EndsByQuit (finish.Closed None) None = ⊥
+EndsByQuit (finish.Closed None) (Some line) = IsQuit line
+EndsByQuit finish.WriteFault (Some line) = IsQuit line
+EndsByQuit end None = Unit {0}
+EndsByQuit end (Some line) = ⊥
 
 -- the counts of failed reads and puts are as they were, but for that of the failure by which the session ended
 abbrev pub KeepsCounts : ConnEnd → Sides → Sides → Type 0
@@ -179,29 +209,38 @@ pub record BreaksAtAnswer (w : Caller) (turns : List AnsweredLine) (wrote wrote'
   pub answered : List AnsweredLine
   pub last : AnsweredLine
   pub split : turns ≡ answered ++ last ∷ []
-  pub begun : HasBegun wrote wrote' (answers_to w answered) (answer_text (answer_of w last.outcome))
+  pub begun : HasBegun wrote wrote' (answers_to w answered) (answer_line (answer_of w last.outcome))
 
 -- a write failed at the refusal of a line over its limit: all answers were written, and a prefix of that
 abbrev pub BreaksAtRefusal : Caller → Talk → (List ℕ → Type 0) → (List ℕ → Type 0) → Type 0
 BreaksAtRefusal w t wrote wrote' =
-    IfSome t.rest (BeginsUnended (line_limit + 1)) × BeginsUnended (line_limit + 1) t.held
-    × HasBegun wrote wrote' (answers_to w t.turns) (answer_text Long)
+    IfSome t.rest (BeginsUnended (LINE_LIMIT + 1)) × BeginsUnended (LINE_LIMIT + 1) t.held
+    × HasBegun wrote wrote' (answers_to w t.turns) (answer_line Long)
 
--- what was written: the answers, with the refusal of a line over its limit behind them, up to the write that failed
-abbrev pub HasWritten : ConnEnd → Caller → Talk → (List ℕ → Type 0) → (List ℕ → Type 0) → Type 0
-HasWritten finish.WriteFault w t wrote wrote' =
-    BreaksAtAnswer w t.turns wrote wrote' ⊎ BreaksAtRefusal w t wrote wrote'
-HasWritten (finish.Closed at) w t wrote wrote' = HasText wrote wrote' (answers_to w t.turns ++ answer_text Long)
-HasWritten end w t wrote wrote' = HasText wrote wrote' (answers_to w t.turns)
+-- the answer at which a write failed: that to a line, or to a line over its limit; or that to `quit`, which is `last`
+abbrev pub Breaks : Option (List ℕ) → Caller → List ℕ → Talk → (List ℕ → Type 0) → (List ℕ → Type 0) → Type 0
+Breaks None w last t wrote wrote' = BreaksAtAnswer w t.turns wrote wrote' ⊎ BreaksAtRefusal w t wrote wrote'
+Breaks (Some line) w last t wrote wrote' = HasBegun wrote wrote' (answers_to w t.turns) last
 
--- the lines of a session of this caller: what they spell, what was taken off the link, what was written, and how they
--- ended
-pub record ServesLines (w : Caller) (budget : ℕ) (t : Talk) (wrote wrote' : List ℕ → Type 0) (old new : Sides)
+-- what was written: the answers, with the refusal of a line over its limit or the answer to `quit` behind them, up to
+-- the write that failed
+abbrev pub HasWritten : ConnEnd → Caller → List ℕ → Talk → (List ℕ → Type 0) → (List ℕ → Type 0) → Type 0
+HasWritten finish.WriteFault w last t wrote wrote' = Breaks t.quit w last t wrote wrote'
+HasWritten (finish.Closed (Some at)) w last t wrote wrote' =
+    HasText wrote wrote' (answers_to w t.turns ++ answer_line Long)
+HasWritten (finish.Closed None) w last t wrote wrote' = HasText wrote wrote' (answers_to w t.turns ++ last)
+HasWritten end w last t wrote wrote' = HasText wrote wrote' (answers_to w t.turns)
+
+-- the lines of a session of this caller: what they spell, what was taken off the link, what was written, with the
+-- answer to `quit`, and how they ended
+pub record ServesLines (w : Caller) (budget : ℕ) (last : List ℕ) (t : Talk) (wrote wrote' : List ℕ → Type 0)
+    (old new : Sides)
     : Type 0 where
-  pub lines : AllByRecursion (IsAnsweredLine w.share) t.turns
+  pub lines : AllByRecursion IsAnsweredLine t.turns
   pub bytes : TakesLines budget t old new
-  pub answers : HasWritten t.end w t wrote wrote'
+  pub answers : HasWritten t.end w last t wrote wrote'
   pub end : IsEnd t.end budget t old new
+  pub quits : EndsByQuit t.end t.quit
   pub counts : KeepsCounts t.end old new
 
 -- the bytes that are reported as taken: those of the lines, with those of a line that was cut, and the budget where
@@ -236,12 +275,11 @@ end_of stop.NoMemory = finish.NoMemory
 end_of (stop.HistoryFull entries sessions limit) =
     finish.Full (record { entries = entries; sessions = sessions; limit = limit })
 
--- a session that is served: by which caller, for which peer, on which share, with which budget of bytes; the history at
--- its end, and how many entries of that had been seen as it began
+-- a session that is served: by which caller, for which peer, with which budget of bytes; the history at its end, and
+-- how many entries of that had been seen as it began
 pub record Visit : Type 0 where
   pub who : ℕ
   pub peer : ℕ
-  pub share : List ℕ
   pub budget : ℕ
   pub history : History
   pub from : ℕ
@@ -253,11 +291,11 @@ pub record LinkState (C : Type 0) : Type 0 where
 
 -- the caller of the visit's session of a number
 abbrev pub caller_of_visit : Visit → ℕ → Caller
-caller_of_visit v session = record { who = v.who; session = session; share = v.share; limit = v.history.limit }
+caller_of_visit v session = record { who = v.who; session = session; limit = v.history.limit }
 
 -- the call that starts a session
 abbrev pub start_call : Visit → ℕ → Came → Outcome
-start_call v moment came = call_with v.who 0 (Start v.peer) moment came
+start_call v moment came = call_with v.who 0 (start_of v.peer) moment came
 
 -- the Start of a session and its End: the moment, the place, and the reply, which for the Start is the session's number
 pub record Bounds : Type 0 where
@@ -275,6 +313,10 @@ session_calls v b turns =
     ∷ (calls_of (caller_of_visit v b.session) turns
     ++ call_with v.who b.session End b.finished (appended b.last b.reply) ∷ [])
 
+-- the answer to `quit`: that of the session's End
+abbrev pub farewell : Bounds → List ℕ
+farewell b = answer_line (Core b.last b.reply false)
+
 -- a session that was started, answered its lines, and was ended: its calls in the history, the moments that the clock
 -- told for them, its lines, and its report
 pub record Session {C : Type 0} (ticks : C → ℕ → C → Type 0) (wrote wrote' : List ℕ → Type 0) (v : Visit)
@@ -283,7 +325,8 @@ pub record Session {C : Type 0} (ticks : C → ℕ → C → Type 0) (wrote wrot
   pub talk : Talk
   pub history : AreCallsIn v.history v.who v.from (session_calls v bounds talk.turns)
   pub moments : StepsThrough ticks old.clock (moments_of (session_calls v bounds talk.turns)) new.clock
-  pub served : ServesLines (caller_of_visit v bounds.session) v.budget talk wrote wrote' old.sides new.sides
+  pub served : ServesLines (caller_of_visit v bounds.session) v.budget (farewell bounds) talk wrote wrote' old.sides
+      new.sides
   pub report_is : report
       ≡ report_of talk.end talk.given v.budget
       (tally_after_all (caller_of_visit v bounds.session) no_tally talk.turns)

@@ -7,7 +7,7 @@ use Rattle.sx_base.specs.Causes.{Rose}
 use Rattle.sx_base.specs.declared.buffer.Refill.{Refill}
 use Rattle.sx_base.specs.declared.buffer.Refill.TheVariants.{More, End as Ended, ReadFault as Failed}
 use Rattle.sx_base.specs.declared.buffer.Refill.TheVariants.{NoMemory as OutOfMemory}
-use Rattle.sx_smb_door.specs.Limits.{line_limit}
+use Rattle.sx_lines.specs.declared.line.TheConstants.{LINE_LIMIT}
 use Rattle.sx_smb_door.specs.LineReaderView.{LineReaderView}
 use Rattle.sx_smb_door.specs.declared.lines.NextLine.{NextLine}
 use Rattle.sx_smb_door.specs.declared.lines.NextLine.TheVariants.{Line, End, Cut, Long, Spent, ReadFault, NoMemory}
@@ -40,7 +40,7 @@ line_stream reader left = prepend_known reader.held left
 pub record GivesLine (line : List ℕ) (old new : LineReaderView) (left left' : Option (List ℕ)) : Type 0 where
   pub bytes : Consumes (line_stream old left) (line_stream new left') (with_line_feed line)
   pub one : IsOneLine line
-  pub short : length line ≤ line_limit
+  pub short : length line ≤ LINE_LIMIT
   pub taken : new.taken ≡ old.taken + length line + 1
   pub within : new.taken ≤ new.budget
   pub budget : new.budget ≡ old.budget
@@ -54,7 +54,7 @@ pub record KeepsStream (old new : LineReaderView) (left left' : Option (List ℕ
 -- what is held is the beginning of a line within its limit, and the budget leaves room for more
 pub record WantsMore (reader : LineReaderView) : Type 0 where
   pub one : IsOneLine reader.held
-  pub short : length reader.held ≤ line_limit
+  pub short : length reader.held ≤ LINE_LIMIT
   pub room : reader.taken + length reader.held < reader.budget
 
 -- why no line was given, by the reader afterwards and what it had yet to give
@@ -62,13 +62,13 @@ abbrev pub IsReason : NextLine → LineReaderView → Option (List ℕ) → ℕ 
 IsReason (Line line) reader bytes before now = ⊥
 IsReason End reader bytes before now = IsAtEnd bytes × (reader.held ≡ []) × (reader.taken < reader.budget)
 IsReason (Cut left) reader bytes before now =
-    IfSome bytes (IsCutLine left) × IsCutLine left reader.held × (1 ≤ left) × (left ≤ line_limit)
+    IfSome bytes (IsCutLine left) × IsCutLine left reader.held × (1 ≤ left) × (left ≤ LINE_LIMIT)
     × (reader.taken + left < reader.budget)
 IsReason (Long at) reader bytes before now =
-    IfSome bytes (BeginsUnended (line_limit + 1)) × BeginsUnended (line_limit + 1) reader.held × (at ≡ reader.taken)
+    IfSome bytes (BeginsUnended (LINE_LIMIT + 1)) × BeginsUnended (LINE_LIMIT + 1) reader.held × (at ≡ reader.taken)
 IsReason Spent reader bytes before now =
     IfSome bytes (BeginsUnended (reader.budget - reader.taken)) × IsCutLine (reader.budget - reader.taken) reader.held
-    × (reader.taken ≤ reader.budget) × (reader.budget ≤ reader.taken + line_limit)
+    × (reader.taken ≤ reader.budget) × (reader.budget ≤ reader.taken + LINE_LIMIT)
 IsReason ReadFault reader bytes before now = Rose before now × WantsMore reader
 IsReason NoMemory reader bytes before now = Unit {0}
 

@@ -5,10 +5,10 @@ ghost use Rattle.std.specs.declared.option.Option.{Option};
 ghost use Rattle.sx_smb_door.specs.Lines.{is_line_end, IsOneLine, BeginsUnended, WantsMore, IsNextLine};
 ghost use Rattle.sx_smb_door.specs.Lines.{IsReasonAtEnd, HasReadCause, Fills};
 
-use crate::limits::LINE_LIMIT;
 use std::alloc::Global;
 use std::marker::Model;
 use sx_base::{Buffer, Items, Refill, Source};
+use sx_lines::LINE_LIMIT;
 use sx_memory::NoMemory;
 
 /// The most bytes that one read asks for.

@@ -1,24 +1,27 @@
 //! A session from its start to its end.
-ghost use Rattle.std.specs.Prelude.{◌≡◌, ◌+◌, ◌-◌, ◌<◌, ◌≤◌, ◌^◌, ◌⊎◌, [], true, ℕ, IfOk, length};
+ghost use Rattle.std.specs.Prelude.{◌≡◌, ◌+◌, ◌<◌, ◌≤◌, ◌^◌, [], true, false, ℕ, MatchOption, length};
 ghost use mathlib.Core.List.{IsPrefix};
-ghost use Rattle.sx_stage_spec.specs.History.{IsHistory};
+ghost use Rattle.sx_call.specs.Calls.{door_of};
+ghost use Rattle.sx_call.specs.declared.doors.Door.TheVariants.{InSession};
+ghost use Rattle.sx_spec.specs.History.{IsHistory};
 ghost use Rattle.sx_book.specs.OneHistory.{history_of};
 ghost use Rattle.sx_book.specs.Passes.{HasOwnPlaces, HoldsSession, KeepsSessions};
-ghost use Rattle.sx_smb_door.specs.Asking.{caller_in, IsAsked, IsAnswered, IsServed, tally_with_stop};
-ghost use Rattle.sx_smb_door.specs.Conversation.{Conversation, ServesLines, Talk, no_tally, report_of, taken_at};
-ghost use Rattle.sx_smb_door.specs.Conversation.{end_of, unstarted_report};
-ghost use Rattle.sx_smb_door.specs.Parse.{is_session_call};
+ghost use Rattle.sx_lines.specs.Answers.{answer_line, is_printed};
+ghost use Rattle.sx_lines.specs.declared.answer.LineAnswer.TheVariants.{Core};
+ghost use Rattle.sx_smb_door.specs.Asking.{caller_in, EndsAs, IsAsked, IsAnswered, IsFarewell, IsServed};
+ghost use Rattle.sx_smb_door.specs.Asking.{SaysQuit, tally_with_stop};
+ghost use Rattle.sx_smb_door.specs.Conversation.{Conversation, ServesLines, Talk, is_lock, no_tally, report_of};
+ghost use Rattle.sx_smb_door.specs.Conversation.{end_of, taken_at, unstarted_report};
 
-use crate::answer::{LineAnswer, print_line};
 use crate::lines::{LineReader, NextLine};
-use crate::parse::call_of_line;
 use crate::tally::Tally;
 use std::alloc::Global;
 use std::sync::Wait;
-use sx_base::{Clock, Link};
-use sx_book::{ConnEnd, ConnReport, Full, Office, Pass, Session};
-use sx_names::ShareName;
-use sx_stage_call::{Call, Stop};
+use sx_answers::session_replies_are_printed;
+use sx_base::{Clock, Link, Sink};
+use sx_book::{ConnEnd, ConnReport, Full, Office, Pass, Receipt, Session};
+use sx_call::{Call, Stop};
+use sx_lines::{Line, LineAnswer, LineFault, call_of_line, print_line};
 
 /// Counts a call that was not appended.
 fn note(tally: &mut Tally, stop: Stop)
@@ -40,6 +43,13 @@ fn note(tally: &mut Tally, stop: Stop)
     }
 }
 
+/// Whether a call locks bytes.
+fn is_lock(call: &Call) -> bool
+    ensures { result ≡ is_lock call.now }
+{
+    matches!(call, Call::SmbLock(_))
+}
+
 /// Asks the call of a line, and gives the answer.
 fn answer_call<R: Wait, C: Clock>(
     rt: &R,
@@ -52,19 +62,23 @@ fn answer_call<R: Wait, C: Clock>(
 ) -> LineAnswer
     requires own { pass.old.office ≡ office.now }
     requires held { HoldsSession pass.old session.now }
-    requires call { is_session_call call ≡ true }
+    requires call { door_of call ≡ InSession }
     requires asked { tally.old.asked + 1 < 2 ^ 64 }
     ensures keeps { KeepsSessions pass.old pass.new }
     ensures asked { IsAsked C.ticks session.now call
         (record { pass = pass.old; clock = clock.old; tally = tally.old })
         (record { pass = pass.new; clock = clock.new; tally = tally.new }) result }
 {
+    // The reply to a session's call can be printed.
+    session_replies_are_printed();
+    let locking = is_lock(&call);
     let now = clock.now();
     tally.asked += 1;
     match office.ask(rt, pass, now, 0, Some(session), call) {
         Ok(receipt) => LineAnswer::Core {
             place: receipt.place,
             reply: receipt.reply,
+            locking,
         },
         Err(stop) => {
             note(tally, stop);
@@ -73,58 +87,60 @@ fn answer_call<R: Wait, C: Clock>(
     }
 }
 
-/// Answers one line.
+/// Answers one line, or gives none where it is `quit`.
 fn answer_line<R: Wait, C: Clock>(
     alloc: Global,
     rt: &R,
     office: &Office,
     pass: &mut Pass,
     session: &Session,
-    share: &ShareName,
     clock: &mut C,
     tally: &mut Tally,
     line: &[u8],
-) -> LineAnswer
+) -> Option<LineAnswer>
     requires own { pass.old.office ≡ office.now }
     requires held { HoldsSession pass.old session.now }
     requires asked { tally.old.asked + 1 < 2 ^ 64 }
     ensures keeps { KeepsSessions pass.old pass.new }
-    ensures answered { IsAnswered C.ticks (caller_in pass.old session.now share.now) line.now
+    ensures answered { MatchOption result
+        (SaysQuit line.now (record { pass = pass.old; clock = clock.old; tally = tally.old })
+        (record { pass = pass.new; clock = clock.new; tally = tally.new }))
+        (λ answer. IsAnswered C.ticks (caller_in pass.old session.now) line.now
         (record { pass = pass.old; clock = clock.old; tally = tally.old })
-        (record { pass = pass.new; clock = clock.new; tally = tally.new }) result }
+        (record { pass = pass.new; clock = clock.new; tally = tally.new }) answer) }
 {
-    match call_of_line(alloc, share, line) {
-        Err(_) => {
+    match call_of_line(alloc, line) {
+        Ok(Line::Ask(call)) => { Some(answer_call(rt, office, pass, session, clock, tally, call)) }
+        Ok(Line::Quit) => None,
+        Err(LineFault::Syntax { at }) => Some(LineAnswer::Syntax { at }),
+        Err(LineFault::NoMemory) => {
             tally.no_memory = true;
-            LineAnswer::Stop(Stop::NoMemory)
+            Some(LineAnswer::Stop(Stop::NoMemory))
         }
-        Ok(None) => LineAnswer::NotBuilt,
-        Ok(Some(call)) => answer_call(rt, office, pass, session, clock, tally, call),
     }
 }
 
-/// Answers the lines of a link until no more are given, and says how they ended.
+/// Answers the lines of a link until no more are given, and says how they ended, or none where it was by `quit`.
 fn serve_lines<R: Wait, L: Link, C: Clock>(
     alloc: Global,
     rt: &R,
     office: &Office,
     pass: &mut Pass,
     session: &Session,
-    share: &ShareName,
     link: &mut L,
     clock: &mut C,
     reader: &mut LineReader,
     tally: &mut Tally,
-) -> ConnEnd
+) -> Option<ConnEnd>
     requires own { pass.old.office ≡ office.now }
     requires held { HoldsSession pass.old session.now }
     requires reader { (reader.old.held ≡ []) × (reader.old.taken ≡ 0) }
     requires tally { tally.old ≡ no_tally }
-    ensures served { (talk : Talk) × (talk.end ≡ result)
-        × IsServed C.ticks (caller_in pass.old session.now share.now) talk
+    ensures served { (talk : Talk) × EndsAs result talk
+        × IsServed C.ticks (caller_in pass.old session.now) talk
         (record { pass = pass.old; clock = clock.old; tally = tally.old })
         (record { pass = pass.new; clock = clock.new; tally = tally.new }) reader.new.taken
-        × ServesLines (caller_in pass.old session.now share.now) reader.old.budget talk
+        × ServesLines (caller_in pass.old session.now) reader.old.budget [] talk
         (L.wrote link.old) (L.wrote link.new)
         (record { left = L.left link.old; reads = L.read_count link.old; writes = L.write_count link.old })
         (record { left = L.left link.new; reads = L.read_count link.new; writes = L.write_count link.new }) }
@@ -145,25 +161,27 @@ fn serve_lines<R: Wait, L: Link, C: Clock>(
                     office,
                     pass,
                     session,
-                    share,
                     clock,
                     tally,
                     line.as_slice(),
                 );
+                let Some(answer) = answer else {
+                    return None;
+                };
                 match print_line(link, &answer) {
                     Ok(()) => {}
-                    Err(_) => return ConnEnd::WriteFault,
+                    Err(_) => return Some(ConnEnd::WriteFault),
                 }
             }
             NextLine::Long { at } => return match print_line(link, &LineAnswer::Long) {
-                Ok(()) => ConnEnd::Closed { at: Some(at) },
-                Err(_) => ConnEnd::WriteFault,
+                Ok(()) => Some(ConnEnd::Closed { at: Some(at) }),
+                Err(_) => Some(ConnEnd::WriteFault),
             },
-            NextLine::End => return ConnEnd::Ended,
-            NextLine::Cut { left } => return ConnEnd::Cut { left },
-            NextLine::Spent => return ConnEnd::Spent,
-            NextLine::ReadFault => return ConnEnd::ReadFault,
-            NextLine::NoMemory => return ConnEnd::NoMemory,
+            NextLine::End => return Some(ConnEnd::Ended),
+            NextLine::Cut { left } => return Some(ConnEnd::Cut { left }),
+            NextLine::Spent => return Some(ConnEnd::Spent),
+            NextLine::ReadFault => return Some(ConnEnd::ReadFault),
+            NextLine::NoMemory => return Some(ConnEnd::NoMemory),
         }
     }
 }
@@ -218,19 +236,39 @@ fn refused(stop: Stop) -> ConnReport
     }
 }
 
-/// Serves one session on a share through an office: starts it, answers its lines until no more are given or the
-/// budget of bytes is spent, and ends it. Others may ask the office meanwhile.
+/// Writes the answer to `quit`, which is that of the session's End, where the lines ended by it, and says how the
+/// session ended.
+fn say_farewell<K: Sink>(sink: &mut K, lines: Option<ConnEnd>, ended: Receipt) -> ConnEnd
+    requires { is_printed (Core ended.place ended.reply false) ≡ true }
+    ensures said { IsFarewell K.wrote K.write_count sink.old sink.new
+        (answer_line (Core ended.place ended.reply false)) lines result }
+    ensures step { K.puts sink.old sink.new }
+{
+    let answer = LineAnswer::Core {
+        place: ended.place,
+        reply: ended.reply,
+        locking: false,
+    };
+    match lines {
+        Some(end) => end,
+        None => match print_line(sink, &answer) {
+            Ok(()) => ConnEnd::Closed { at: None },
+            Err(_) => ConnEnd::WriteFault,
+        },
+    }
+}
+
+/// Serves one session through an office: starts it, answers its lines until no more are given or the budget of bytes
+/// is spent, and ends it. Others may ask the office meanwhile. The line `quit` ends it and is answered by its End.
 ///
-/// Where the start is refused, no byte is read or written: the report's end is then `Full` or `NoMemory`.
-/// `WriteFault` and
-/// `ReadFault` come only where the link's counts of failures rose. Every session that was started is ended, and the
-/// pass goes on holding the sessions that it held.
+/// Where the start is refused, no byte is read or written: the report's end is then `Full` or `NoMemory`. `WriteFault`
+/// and `ReadFault` come only where the link's counts of failures rose. Every session that was started is ended, and
+/// only where `quit` ended it is the End's answer written. The pass goes on holding the sessions that it held.
 pub fn serve_session<R: Wait, L: Link, C: Clock>(
     alloc: Global,
     rt: &R,
     office: &Office,
     pass: &mut Pass,
-    share: &ShareName,
     link: &mut L,
     clock: &mut C,
     budget: u64,
@@ -240,7 +278,6 @@ pub fn serve_session<R: Wait, L: Link, C: Clock>(
         (record {
           who = pass.old.number;
           peer = L.peer_of link.old;
-          share = share.now;
           budget = budget;
           history = history_of pass.new;
           from = length pass.old.seen;
@@ -271,19 +308,21 @@ pub fn serve_session<R: Wait, L: Link, C: Clock>(
         full: None,
         no_memory: false,
     };
-    let finish = serve_lines(
+    let lines = serve_lines(
         alloc,
         rt,
         office,
         pass,
         &session,
-        share,
         link,
         clock,
         &mut reader,
         &mut tally,
     );
+    // The reply to an End can be printed.
+    session_replies_are_printed();
     let now = clock.now();
-    let _receipt = office.end_session(rt, pass, now, session);
-    report(finish, reader.taken(), budget, tally)
+    let receipt = office.end_session(rt, pass, now, session);
+    let end = say_farewell(link, lines, receipt);
+    report(end, reader.taken(), budget, tally)
 }

@@ -9,10 +9,10 @@ use Rattle.sx_smb_door.proofs.session.serve_lines.Given as goal
 -- the lines so far, with what was written for them; the pass still holds the session
 abbrev pub invariant-loop-line : goal.invariant-loop-line
 invariant-loop-line g l = record {
-  run : (going : Going g.C.Clock.ticks (caller_in l.fn.pass l.session l.share)
+  run : (going : Going g.C.Clock.ticks (caller_in l.fn.pass l.session)
       (line_stream l.fn.reader (g.L.Source.left l.fn.link)) (line_stream l.reader (g.L.Source.left l.link))
       (record { pass = l.fn.pass; clock = l.fn.clock; tally = l.fn.tally }) (record { pass = l.pass; clock = l.clock; tally = l.tally }) l.reader.taken)
-      × HasText (g.L.Sink.wrote l.fn.link) (g.L.Sink.wrote l.link) (answers_to (caller_in l.fn.pass l.session l.share) going.turns);
+      × HasText (g.L.Sink.wrote l.fn.link) (g.L.Sink.wrote l.link) (answers_to (caller_in l.fn.pass l.session) going.turns);
   held : HoldsSession l.pass l.session;
   keeps : KeepsSessions l.fn.pass l.pass;
   own : l.pass.office ≡ l.office;

@@ -1,7 +1,7 @@
 use Rattle.std.proofs.Common.{ap, sym, ◌∙◌, subst, ◌+◌, ◌≤◌, length}
-use Rattle.sx_stage_spec.specs.History.{IsHistory}
-use Rattle.sx_stage_spec.specs.Step.{replay}
-use Rattle.sx_stage_spec.specs.Whole.{IsWhole}
+use Rattle.sx_spec.specs.History.{IsHistory}
+use Rattle.sx_spec.specs.Step.{replay}
+use Rattle.sx_spec.specs.Whole.{IsWhole}
 use Rattle.sx_turn.specs.Seats.{HasPlacesIn, after_take}
 use Rattle.sx_book.specs.Passes.{caller_of, GrowsByOthers}
 use Rattle.sx_book.proofs.Appended.{others_found, stands_found, appended_ok, appended_none}
@@ -32,6 +32,6 @@ returns-clause-stop g c =
     let grows = others_found s c.take-held.result.entries c.take-held.ensures.seen c.take-held.ensures.exact.0 c.take-held.ensures.exact.1 in
     appended_none c.args.pass.now s c.take-held.new.seat c.give.new.seat c.value_mut.result.now c.append_call-result.new.book c.number-who.result c.args.session c.args.now c.args.fresh c.args.call c.append_call-result.result
     c.pass.view_is (c.take-held.ensures.taken ∙ ap (λ h. after_take h.entries s) same) (subst (λ h. GrowsByOthers s.number s.seen h.entries) same grows) (sym (ap (λ h. h.limit) same) ∙ c.take-held.ensures.lasting) (subst (λ h. IsHistory h.limit h.entries) (c.value.ensures ∙ same) c.keeps.ensures.history)
-    (subst (λ h. length h.entries + length (replay h.entries).sessions ≤ h.limit) (c.value.ensures ∙ same) c.keeps.ensures.room)
+    (subst (λ h. length h.entries + length (replay h.entries).store.sessions ≤ h.limit) (c.value.ensures ∙ same) c.keeps.ensures.room)
     c.append_call-result.ensures.full c.append_call-result.ensures.err c.give.ensures.given
     (subst (λ h. HasPlacesIn caller_of h.entries s) same c.take-held.ensures.exact.0)

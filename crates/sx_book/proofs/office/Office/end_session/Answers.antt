@@ -1,5 +1,5 @@
 use Rattle.std.proofs.Common.{sym, ◌∙◌}
-use Rattle.sx_stage_call.specs.declared.call.Call.TheVariants.{End}
+use Rattle.sx_call.specs.declared.calls.Call.TheVariants.{End}
 use Rattle.sx_book.proofs.Held.{took_keeps}
 use Rattle.sx_book.proofs.office.Office.end_session.Goals as goal
 

@@ -1,5 +1,5 @@
 use Rattle.std.proofs.Common.{arith, rules, ◌≡◌, ◌<◌, ◌+◌, ◌-◌, ◌∙◌, length, ap, subst, inr}
-use Rattle.sx_smb_door.specs.Limits.{line_limit}
+use Rattle.sx_lines.specs.declared.line.TheConstants.{LINE_LIMIT}
 use Rattle.sx_smb_door.specs.LineReaderView.{LineReaderView}
 use Rattle.sx_smb_door.specs.Lines.{line_stream, KeepsStream, WantsMore}
 use Rattle.sx_smb_door.proofs.Answering.{answered_more, reason_answered, stays_more, told_end, cause_more, cause_then, wanted_first, unread_first}
@@ -15,7 +15,7 @@ returns-in-Some-clause-answered g c =
 pub loop-next-smaller : goal.loop-next-smaller
 loop-next-smaller g c =
     let same : length c.ready.new.self.held ≡ length c.loop-next.self.held = ap (λ (r : LineReaderView). length r.held) c.in_default.ensures.answered.0 in
-    let less : line_limit + 1 - length c.fill.new.self.held < line_limit + 1 - length c.loop-next.self.held = omega (arith, same, c.in_default.ensures.answered.1.short, c.in-More.ensures.filled.2) in
+    let less : LINE_LIMIT + 1 - length c.fill.new.self.held < LINE_LIMIT + 1 - length c.loop-next.self.held = omega (arith, same, c.in_default.ensures.answered.1.short, c.in-More.ensures.filled.2) in
     less
 
 pub returns-in-End-clause-answered : goal.returns-in-End-clause-answered

@@ -1,5 +1,5 @@
 use Rattle.std.proofs.Common.{◌≡◌, ◌+◌, ◌-◌, length}
-use Rattle.sx_smb_door.specs.Limits.{line_limit}
+use Rattle.sx_lines.specs.declared.line.TheConstants.{LINE_LIMIT}
 use Rattle.sx_smb_door.specs.Lines.{BeginsUnended, KeepsStream}
 use Rattle.sx_smb_door.proofs.Answering.{ReadsWhereWanted}
 use Rattle.sx_smb_door.proofs.lines.LineReader.next.Given as goal
@@ -15,4 +15,4 @@ invariant-loop-next g l = record {
 }
 
 abbrev pub decreases-loop-next : goal.decreases-loop-next
-decreases-loop-next g l = line_limit + 1 - length l.self.held
+decreases-loop-next g l = LINE_LIMIT + 1 - length l.self.held
