@@ -223,7 +223,7 @@ fn is_list(call: &Call, index: u32, marker: &[u8], max: u32) -> bool {
 }
 
 /// The call, if it keeps no memory.
-fn plain(call: &Call) -> Option<Plain> {
+fn on_handle(call: &Call) -> Option<Plain> {
     match call {
         Call::SmbClose(c) => Some(Close(c.index.number())),
         Call::SmbRead(c) => Some(Read(c.index.number(), c.range.at, c.range.count)),
@@ -245,7 +245,7 @@ fn is_call(call: &Call, wanted: Said) -> bool {
     match wanted {
         Write(index, at, bytes) => is_write(call, index, at, bytes),
         List(index, marker, max) => is_list(call, index, marker, max),
-        On(wanted) => plain(call) == Some(wanted),
+        On(wanted) => on_handle(call) == Some(wanted),
         Open(..) => match call {
             Call::SmbOpen(open) => is_open(open, wanted),
             _ => false,
