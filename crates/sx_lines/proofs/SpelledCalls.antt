@@ -20,7 +20,7 @@ use Rattle.sx_lines.specs.declared.verb.Verb.{Verb}
 use Rattle.sx_lines.specs.declared.verb.Verb.TheVariants.{Close, Read, Write, Resize, Lock, Unlock, Stat, List as Lists, Dispose}
 use Rattle.sx_lines.specs.Words.{next_word, behind_next, end_of}
 use Rattle.sx_lines.specs.Fields.{index_of, offset_of, length_of, page_size_of, read_range_of, byte_range_of, write_of, marker_of, choice_of}
-use Rattle.sx_lines.specs.Lines.{close_call, read_call, write_call, resize_call, lock_call, unlock_call, stat_call, list_call, dispose_call, call_said, verb_of, line_read, line_of}
+use Rattle.sx_lines.specs.Lines.{close_call, read_call, write_call, resize_call, lock_in, lock_call, unlock_call, stat_call, list_call, dispose_call, call_said, verb_of, line_read, line_of}
 use Rattle.sx_lines.specs.Answers.{next_text}
 use Rattle.sx_lines.proofs.SpelledWords.{is_visible, is_printed, IsWord, IsBehind, both_pass, word_printed, first_is, behind_is, next_is, rest_is, without_return_same, printed_utf8}
 use Rattle.sx_lines.proofs.SpelledNumbers.{decimal_word, number_is}
@@ -249,32 +249,9 @@ lock_tail_is index i kind h k w =
 
 lock_said : (index : ℕ) (i : Interval) (exclusive : Bool) (kind : List ℕ) → IsHandleIndex index → is_byte_range i ≡ true → IsWord kind
     → choice_of (codes "exclusive") (codes "shared") kind ≡ Some exclusive
-    → lock_call (lock_tail index i kind) ≡ Ok (SmbLock (record { index = index; range = i; exclusive = exclusive }))
-unfolding lock_call end_of
+    → lock_in (lock_tail index i kind) ≡ Ok (record { index = index; range = i; exclusive = exclusive })
+unfolding lock_in end_of
 lock_said index i exclusive kind h k w e =
-    let small = lock_small i k in
-    let n = index_word index h in
-    let s = three_said (decimal i.from) (decimal (i.end - i.from)) kind (decimal_word i.from small.0) (decimal_word (i.end - i.from) small.1) w in
-    rw (
-      rest_is (decimal index) (32 ∷ (decimal i.from ++ 32 ∷ (decimal (i.end - i.from) ++ 32 ∷ (kind ++ [])))) n refl,
-      next_is (decimal index) (32 ∷ (decimal i.from ++ 32 ∷ (decimal (i.end - i.from) ++ 32 ∷ (kind ++ [])))) n refl,
-      s.1,
-      s.0,
-      s.3,
-      s.2,
-      s.5,
-      s.4,
-      index_is index h,
-      offset_is i.from small.0,
-      locked_is i k,
-      e,
-    ) refl
-
-unlock_said : (index : ℕ) (i : Interval) (exclusive : Bool) (kind : List ℕ) → IsHandleIndex index → is_byte_range i ≡ true → IsWord kind
-    → choice_of (codes "exclusive") (codes "shared") kind ≡ Some exclusive
-    → unlock_call (lock_tail index i kind) ≡ Ok (SmbUnlock (record { index = index; range = i; exclusive = exclusive }))
-unfolding unlock_call end_of
-unlock_said index i exclusive kind h k w e =
     let small = lock_small i k in
     let n = index_word index h in
     let s = three_said (decimal i.from) (decimal (i.end - i.from)) kind (decimal_word i.from small.0) (decimal_word (i.end - i.from) small.1) w in
@@ -296,15 +273,15 @@ unlock_said index i exclusive kind h k w e =
 pub lock_says : (index : ℕ) (i : Interval) (exclusive : Bool) (kind : List ℕ) → IsHandleIndex index → is_byte_range i ≡ true → IsWord kind
     → choice_of (codes "exclusive") (codes "shared") kind ≡ Some exclusive
     → Says (codes "lock" ++ lock_tail index i kind) (SmbLock (record { index = index; range = i; exclusive = exclusive }))
-unfolding call_said verb_of
+unfolding call_said verb_of lock_call
 lock_says index i exclusive kind h k w e =
     said (codes "lock") (lock_tail index i kind) Lock (SmbLock (record { index = index; range = i; exclusive = exclusive })) refl refl refl
-    (lock_tail_is index i kind h k w) (lock_said index i exclusive kind h k w e)
+    (lock_tail_is index i kind h k w) (rw (lock_said index i exclusive kind h k w e) refl)
 
 pub unlock_says : (index : ℕ) (i : Interval) (exclusive : Bool) (kind : List ℕ) → IsHandleIndex index → is_byte_range i ≡ true → IsWord kind
     → choice_of (codes "exclusive") (codes "shared") kind ≡ Some exclusive
     → Says (codes "unlock" ++ lock_tail index i kind) (SmbUnlock (record { index = index; range = i; exclusive = exclusive }))
-unfolding call_said verb_of
+unfolding call_said verb_of unlock_call
 unlock_says index i exclusive kind h k w e =
     said (codes "unlock") (lock_tail index i kind) Unlock (SmbUnlock (record { index = index; range = i; exclusive = exclusive })) refl refl refl
-    (lock_tail_is index i kind h k w) (unlock_said index i exclusive kind h k w e)
+    (lock_tail_is index i kind h k w) (rw (lock_said index i exclusive kind h k w e) refl)

@@ -19,15 +19,17 @@ use crate::middle::{Middle, print_parts};
 use crate::smb_answer::next_word;
 use std::alloc::Global;
 use sx_base::{Failed, Items, MemSink, Sink};
-use sx_call::{ByteRange, Call, How, SmbOpen};
+use sx_call::{ByteRange, Call, How, SmbDispose, SmbList, SmbOpen, SmbRead, SmbResize, SmbWrite};
+use sx_guard::HandleIndex;
 use sx_memory::NoMemory;
 use sx_names::Text;
 
-/// The line that spells a call of a session, without a line feed: the one of its lines that answers are printed like,
-/// with its hexadecimal digits in lower case and its names percent-encoded but for letters, digits, `-`, `_`, `.` and
-/// `~`. Reading it gives the call. It takes the memory of the line twice.
+/// The line that says a call of a session, without a line feed. Reading it gives the call.
 ///
-/// The call comes in a session: the start and the end of one have no line.
+/// Its hexadecimal digits are in lower case, and its names percent-encoded (RFC 3986, section 2.1) but for ASCII
+/// letters, digits, `-`, `_`, `.` and `~`. The call comes in a session: its start and its end have no line here.
+///
+/// `NoMemory` comes where no memory is left. The line is held twice while it is made.
 pub fn line_of_call(alloc: Global, call: &Call) -> Result<Text, NoMemory>
     requires { door_of call.now ≡ Door.InSession }
     ensures line { IfOk result (λ line. line ≡ call_text call.now) }
@@ -91,96 +93,77 @@ fn print_call<K: Sink>(sink: &mut K, call: &Call) -> Result<(), Failed>
 {
     match call {
         Call::SmbOpen(call) => print_open(sink, call),
-        Call::SmbClose(call) => print_handle(sink, b"close ", call.index.number()),
-        Call::SmbRead(call) => print_read(
-            sink,
-            call.index.number(),
-            call.range.at,
-            call.range.count,
-        ),
-        Call::SmbWrite(call) => {
-            print_write(
-                sink,
-                call.index.number(),
-                call.write.at,
-                call.write.piece.bytes(),
-            )
+        Call::SmbClose(call) => print_handle(sink, b"close ", call.index),
+        Call::SmbRead(call) => print_read(sink, call),
+        Call::SmbWrite(call) => print_write(sink, call),
+        Call::SmbResize(call) => print_resize(sink, call),
+        Call::SmbLock(call) => {
+            print_lock(sink, b"lock ", call.index, &call.range, call.exclusive)
         }
-        Call::SmbResize(call) => print_resize(sink, call.index.number(), call.length.bytes()),
-        Call::SmbLock(call) => print_lock(
-            sink,
-            b"lock ",
-            call.index.number(),
-            &call.range,
-            call.exclusive,
-        ),
-        Call::SmbUnlock(call) => print_lock(
-            sink,
-            b"unlock ",
-            call.index.number(),
-            &call.range,
-            call.exclusive,
-        ),
-        Call::SmbStat(call) => print_handle(sink, b"stat ", call.index.number()),
-        Call::SmbList(call) => print_list(
-            sink,
-            call.index.number(),
-            &call.marker,
-            call.max.results(),
-        ),
-        Call::SmbDispose(call) => print_dispose(sink, call.index.number(), call.on),
+        Call::SmbUnlock(call) => {
+            print_lock(sink, b"unlock ", call.index, &call.range, call.exclusive)
+        }
+        Call::SmbStat(call) => print_handle(sink, b"stat ", call.index),
+        Call::SmbList(call) => print_list(sink, call),
+        Call::SmbDispose(call) => print_dispose(sink, call),
         _ => unreachable!(),
     }
 }
 
-fn print_handle<K: Sink>(sink: &mut K, verb: &[u8], index: u32) -> Result<(), Failed>
+fn print_handle<K: Sink>(sink: &mut K, verb: &[u8], index: HandleIndex) -> Result<(), Failed>
     ensures { Prints K.wrote K.write_count K.puts sink.old sink.new (handle_text verb.now index) result }
 {
-    print_words(sink, &[Word::Text(verb), Word::Number(index as u64)])
+    print_words(
+        sink,
+        &[Word::Text(verb), Word::Number(index.number() as u64)],
+    )
 }
 
-fn print_read<K: Sink>(sink: &mut K, index: u32, at: u64, count: u32) -> Result<(), Failed>
-    ensures { Prints K.wrote K.write_count K.puts sink.old sink.new (read_text index at count) result }
+fn print_read<K: Sink>(sink: &mut K, call: &SmbRead) -> Result<(), Failed>
+    ensures { Prints K.wrote K.write_count K.puts sink.old sink.new
+        (read_text call.now.index call.now.range.at call.now.range.count) result }
 {
     print_words(
         sink,
         &[
             Word::Text(b"read "),
-            Word::Number(index as u64),
+            Word::Number(call.index.number() as u64),
             Word::Text(b" "),
-            Word::Number(at),
+            Word::Number(call.range.at),
             Word::Text(b" "),
-            Word::Number(count as u64),
+            Word::Number(call.range.count as u64),
         ],
     )
 }
 
-fn print_write<K: Sink>(sink: &mut K, index: u32, at: u64, bytes: &[u8]) -> Result<(), Failed>
-    ensures { Prints K.wrote K.write_count K.puts sink.old sink.new (write_text index at bytes.now) result }
+fn print_write<K: Sink>(sink: &mut K, call: &SmbWrite) -> Result<(), Failed>
+    ensures { Prints K.wrote K.write_count K.puts sink.old sink.new
+        (write_text call.now.index call.now.write.at call.now.write.piece) result }
 {
     print_words(
         sink,
         &[
             Word::Text(b"write "),
-            Word::Number(index as u64),
+            Word::Number(call.index.number() as u64),
             Word::Text(b" "),
-            Word::Number(at),
+            Word::Number(call.write.at),
             Word::Text(b" "),
-            Word::Hex(bytes),
+            Word::Hex(call.write.piece.bytes()),
         ],
     )
 }
 
-fn print_resize<K: Sink>(sink: &mut K, index: u32, length: u64) -> Result<(), Failed>
-    ensures { Prints K.wrote K.write_count K.puts sink.old sink.new (resize_text index length) result }
+fn print_resize<K: Sink>(sink: &mut K, call: &SmbResize) -> Result<(), Failed>
+    ensures { Prints K.wrote K.write_count K.puts sink.old sink.new
+        (resize_text call.now.index call.now.length) result }
 {
     print_words(
         sink,
         &[
             Word::Text(b"resize "),
-            Word::Number(index as u64),
+            Word::Number(call.index.number() as u64),
             Word::Text(b" "),
-            Word::Number(length),
+            Word::Number(call.length.bytes()),
         ],
     )
 }
@@ -194,7 +177,7 @@ fn lock_word(exclusive: bool) -> &'static [u8]
 fn print_lock<K: Sink>(
     sink: &mut K,
     verb: &[u8],
-    index: u32,
+    index: HandleIndex,
     range: &ByteRange,
     exclusive: bool,
 ) -> Result<(), Failed>
@@ -208,7 +191,7 @@ fn print_lock<K: Sink>(
         sink,
         &[
             Word::Text(verb),
-            Word::Number(index as u64),
+            Word::Number(index.number() as u64),
             Word::Text(b" "),
             Word::Number(from),
             Word::Text(b" "),
@@ -219,19 +202,20 @@ fn print_lock<K: Sink>(
     )
 }
 
-fn print_list<K: Sink>(sink: &mut K, index: u32, marker: &Text, max: u32) -> Result<(), Failed>
-    ensures { Prints K.wrote K.write_count K.puts sink.old sink.new (list_text index marker.now max) result }
+fn print_list<K: Sink>(sink: &mut K, call: &SmbList) -> Result<(), Failed>
+    ensures { Prints K.wrote K.write_count K.puts sink.old sink.new
+        (list_text call.now.index call.now.marker call.now.max) result }
 {
-    let marker = next_word(marker);
+    let marker = next_word(&call.marker);
     print_words(
         sink,
         &[
             Word::Text(b"list "),
-            Word::Number(index as u64),
+            Word::Number(call.index.number() as u64),
             Word::Text(b" "),
             marker,
             Word::Text(b" "),
-            Word::Number(max as u64),
+            Word::Number(call.max.results() as u64),
         ],
     )
 }
@@ -242,15 +226,15 @@ fn mark_word(on: bool) -> &'static [u8]
     if on { b"on" } else { b"off" }
 }
 
-fn print_dispose<K: Sink>(sink: &mut K, index: u32, on: bool) -> Result<(), Failed>
-    ensures { Prints K.wrote K.write_count K.puts sink.old sink.new (dispose_text index on) result }
+fn print_dispose<K: Sink>(sink: &mut K, call: &SmbDispose) -> Result<(), Failed>
+    ensures { Prints K.wrote K.write_count K.puts sink.old sink.new (dispose_text call.now.index call.now.on) result }
 {
-    let mark = mark_word(on);
+    let mark = mark_word(call.on);
     print_words(
         sink,
         &[
             Word::Text(b"dispose "),
-            Word::Number(index as u64),
+            Word::Number(call.index.number() as u64),
             Word::Text(b" "),
             Word::Text(mark),
         ],
