@@ -1,5 +1,5 @@
 #!/usr/bin/env python3
-"""Prints the sizes of all crates, as rows of the table in docs/PROVING.md.
+"""Prints the sizes of all crates, as rows of the table in docs/PROVING.md, or puts them there with `--write`.
 
 Lines without blanks and comments in src/, specs/ and proofs/, functions with a body in src/, and wrong bodies in
 must-fail/. Crates of tests alone stand in one line behind the table, by the lines of their src/.
@@ -47,15 +47,44 @@ def sizes(crate):
             functions(crate), edits]
 
 
-def main():
-    """Prints the rows, their sum, and the crates of tests."""
+def table():
+    """The rows of the table by the name of their crate, with the sum last."""
     crates = [crate for crate in listed() if not is_of_tests(crate)]
-    rows = [sizes(crate) for crate in crates]
-    for crate, row in zip(crates, rows):
-        print(f"| {crate.name} | " + " | ".join(f"{size:,}" for size in row) + " |")
-    print("| all | " + " | ".join(f"{sum(column):,}" for column in zip(*rows)) + " |")
+    rows = {crate.name: sizes(crate) for crate in crates}
+    rows["all"] = [sum(column) for column in zip(*rows.values())]
+    return {name: f"| {name} | " + " | ".join(f"{size:,}" for size in row) + " |" for name, row in rows.items()}
+
+
+def of_tests():
+    """The crates of tests, with their lines."""
     tests = [f"{crate.name} {count(crate, 'src', '.rt'):,}" for crate in listed() if is_of_tests(crate)]
-    print("\nCrates of tests alone, by their lines: " + ", ".join(tests) + ".")
+    return "Crates of tests alone, by their lines: " + ", ".join(tests)
+
+
+def times(line):
+    """The two last columns of a row, which are measured and not counted."""
+    return " | ".join(column.strip() for column in line.split("|")[-3:-1]).strip()
+
+
+def written(page):
+    """The page with its table and its line on crates of tests anew."""
+    begin = page.index("| crate | src | specs ")
+    end = page.index("\n\n", begin)
+    head, rule, *old = page[begin:end].splitlines()
+    known = {line.split("|")[1].strip(): times(line) for line in old}
+    rows = [f"{row} {known.get(name, '|')} |".replace("| |", "| |") for name, row in table().items()]
+    page = page[:begin] + "\n".join([head, rule, *rows]) + page[end:]
+    return re.sub(r"Crates of tests alone, by their lines: [^;.]*", lambda _: of_tests(), page)
+
+
+def main():
+    """Prints the rows and the crates of tests, or with `--write` puts them into docs/PROVING.md."""
+    if sys.argv[1:] == ["--write"]:
+        page = ROOT / "docs" / "PROVING.md"
+        page.write_text(written(page.read_text(encoding="utf-8")), encoding="utf-8")
+        return
+    print("\n".join(table().values()))
+    print("\n" + of_tests() + ".")
 
 
 if __name__ == "__main__":
