@@ -6,4 +6,6 @@ mod calls;
 #[cfg(test)]
 mod refusals;
 #[cfg(test)]
+mod table;
+#[cfg(test)]
 mod told;

@@ -47,10 +47,10 @@ pub const fn with_body(head: &'static str, body: &'static str, told: Told) -> Ca
     Case { head, body, told }
 }
 
-fn head_of(rt: &impl Abort, alloc: Global, text: &str) -> Head {
-    match read_head(alloc, text.as_bytes()) {
+fn head_of(rt: &impl Abort, alloc: Global, text: &[u8]) -> Head {
+    match read_head(alloc, text) {
         Ok(Some(head)) => head,
-        _ => panic!(rt; "no head: {text}"),
+        _ => panic!(rt; "no head"),
     }
 }
 
@@ -61,10 +61,10 @@ fn body_of(rt: &impl Abort, alloc: Global, text: &str) -> Items<u8> {
     }
 }
 
-fn request_of(rt: &impl Abort, alloc: Global, case: &Case) -> Request {
+fn request_of(rt: &impl Abort, alloc: Global, head: &[u8], body: &str) -> Request {
     Request {
-        head: head_of(rt, alloc, case.head),
-        body: body_of(rt, alloc, case.body),
+        head: head_of(rt, alloc, head),
+        body: body_of(rt, alloc, body),
     }
 }
 
@@ -178,12 +178,22 @@ fn is_told(answer: &Result<Call, Unread>, told: Told) -> bool {
 /// Lets go of a value whole, whatever it holds.
 fn let_go<T: Drop>(_value: T) {}
 
+/// Whether a request of this head and body is read as is told.
+fn is_read_as(rt: &impl Abort, alloc: Global, head: &[u8], body: &str, told: Told) -> bool {
+    let answer = call_of(alloc, request_of(rt, alloc, head, body));
+    let as_told = is_told(&answer, told);
+    let_go(answer);
+    as_told
+}
+
+/// Whether a request without a body is read as is told.
+pub fn reads(rt: &impl Abort, alloc: Global, head: &[u8], told: Told) -> bool {
+    is_read_as(rt, alloc, head, "", told)
+}
+
 /// The request is read as is told.
 pub fn is_read(rt: &impl Abort, alloc: Global, case: &Case) {
-    let answer = call_of(alloc, request_of(rt, alloc, case));
-    let told = is_told(&answer, case.told);
-    let_go(answer);
-    if !told {
+    if !is_read_as(rt, alloc, case.head.as_bytes(), case.body, case.told) {
         panic!(rt; "read otherwise: {}", case.head);
     }
 }
