@@ -11,9 +11,7 @@ use sx_call::{Call, Noted, Reply, SmbReply};
 
 // An entry of Create Share with the random number 17, which was carried out.
 fn is_creation(noted: &Noted) -> bool {
-    matches!(&noted.entry.call, Call::CreateShare(_))
-        && noted.entry.fresh == 17
-        && !noted.refused
+    matches!(&noted.entry.call, Call::CreateShare(_)) && noted.entry.fresh == 17 && !noted.refused
 }
 
 #[test]

@@ -16,11 +16,7 @@ use sx_ops_smb::{force_close_handles, list_handles};
 use sx_state::State;
 
 /// Does and answers a call that names a file or directory.
-pub(crate) fn serve_file(
-    state: &mut State,
-    now: &Stamp,
-    entry: &Entry,
-) -> Result<Reply, NoMemory>
+pub(crate) fn serve_file(state: &mut State, now: &Stamp, entry: &Entry) -> Result<Reply, NoMemory>
     requires target { is_some (target_of entry.now.call) ≡ true }
     requires fresh { IsFresh state.old }
     requires ids { state.old.next_id + 1 < 2 ^ 64 }

@@ -13,11 +13,7 @@ use sx_memory::NoMemory;
 use sx_state::State;
 
 /// Does and answers a REST call: those that name a file or directory, and those that name a share or none.
-pub(crate) fn serve_rest(
-    state: &mut State,
-    now: &Stamp,
-    entry: &Entry,
-) -> Result<Reply, NoMemory>
+pub(crate) fn serve_rest(state: &mut State, now: &Stamp, entry: &Entry) -> Result<Reply, NoMemory>
     requires door { door_of entry.now.call ≡ Door.Rest }
     requires fresh { IsFresh state.old }
     requires ids { state.old.next_id + 1 < 2 ^ 64 }

@@ -14,11 +14,7 @@ use sx_ops_share::{
 use sx_state::State;
 
 /// Does and answers a call that names a share, and List Shares.
-pub(crate) fn serve_share(
-    state: &mut State,
-    now: &Stamp,
-    entry: &Entry,
-) -> Result<Reply, NoMemory>
+pub(crate) fn serve_share(state: &mut State, now: &Stamp, entry: &Entry) -> Result<Reply, NoMemory>
     requires door { door_of entry.now.call ≡ Door.Rest }
     requires target { target_of entry.now.call ≡ None }
     requires ids { state.old.next_id + 1 < 2 ^ 64 }
