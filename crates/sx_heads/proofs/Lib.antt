@@ -1,0 +1,4 @@
+pub mod Lookups
+pub mod EncodedTexts
+pub mod Paths
+pub mod Queries

@@ -1,0 +1,9 @@
+use Rattle.std.proofs.Common.{◌≡◌, refl, ℕ}
+use Rattle.sx_heads.proofs.Lookups.{one_is}
+use Rattle.sx_heads.proofs.EncodedTexts.{text_back}
+use Rattle.sx_heads.proofs.Paths.{cut_none}
+use Rattle.sx_heads.proofs.Queries.{parameter_back}
+use Rattle.sx_heads.proofs.laws.law.Goals as goal
+
+pub returns : goal.returns
+returns c = record { one = refl }

@@ -1,0 +1,5 @@
+//! Calls spelled as requests: one request for each call of REST, which is read as that call.
+#![tactic(auto)]
+
+pub mod escapes;
+mod laws;
