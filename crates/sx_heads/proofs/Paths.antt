@@ -70,8 +70,11 @@ share_bytes (b ∷ bs) e =
     let both = and_parts (is_share_byte b) (list_all is_share_byte bs) e in
     All-cons IsByte b bs (byte_low b both.0) (share_bytes bs both.1)
 
-pub share_name_bytes : (name : List ℕ) → is_share_name name ≡ true → AreBytes name
-share_name_bytes name e = share_bytes name (and_parts _ (list_all is_share_byte name) (and_parts _ _ (and_parts _ _ (and_parts _ _ e).0).0).0).1
+pub share_name_all : (name : List ℕ) → is_share_name name ≡ true → list_all is_share_byte name ≡ true
+share_name_all name e = (and_parts _ (list_all is_share_byte name) (and_parts _ _ (and_parts _ _ (and_parts _ _ e).0).0).0).1
+
+share_name_bytes : (name : List ℕ) → is_share_name name ≡ true → AreBytes name
+share_name_bytes name e = share_bytes name (share_name_all name e)
 
 share_back : (name : List ℕ) → is_share_name name ≡ true → share_of (escaped name) ≡ Ok name
 unfolding share_of

@@ -3,6 +3,7 @@ use Rattle.sx_heads.proofs.Lookups.{one_is}
 use Rattle.sx_heads.proofs.EncodedTexts.{text_back}
 use Rattle.sx_heads.proofs.Paths.{cut_none}
 use Rattle.sx_heads.proofs.Queries.{parameter_back}
+use Rattle.sx_heads.proofs.ReadValues.{shares_marker_ascii}
 use Rattle.sx_heads.proofs.laws.law.Goals as goal
 
 pub returns : goal.returns
