@@ -4,3 +4,7 @@ pub mod Paths
 pub mod Queries
 pub mod PlainTexts
 pub mod ReadValues
+pub mod AttributeWords
+pub mod MetaFields
+pub mod Requests
+pub mod ShareRequests

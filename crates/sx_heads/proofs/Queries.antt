@@ -189,7 +189,7 @@ query_is : (q : Query) → query_text q ≡ text_of (given (asked_in q))
 unfolding query_text
 query_is q = added_text [] (asked_in q)
 
-from_test : (c : ℕ) (n : List ℕ) → list_all (λ b. not (b == c)) n ≡ true → All (λ b. (b == c) ≡ false) n
+pub from_test : (c : ℕ) (n : List ℕ) → list_all (λ b. not (b == c)) n ≡ true → All (λ b. (b == c) ≡ false) n
 from_test c [] e = All-nil (λ b. (b == c) ≡ false)
 from_test c (b ∷ bs) e =
     let both = no_and_rest (b == c) (list_all (λ x. not (x == c)) bs) e in

@@ -61,18 +61,18 @@ time_text Keep = codes "preserve"
 time_text Now = codes "now"
 time_text (At moment) = moment_text moment
 
--- a word, where it is said
-abbrev pub word_if : Bool → List ℕ → List (List ℕ)
-word_if said word = if said then word ∷ [] else []
+-- the words whose flags are set
+abbrev pub words_said : List (Bool × List ℕ) → List (List ℕ)
+words_said [] = []
+words_said (word ∷ words) = if word.0 then word.1 ∷ words_said words else words_said words
 
--- the words of attributes, in their order
-abbrev pub attribute_words : Attributes → List (List ℕ)
-attribute_words a =
-    word_if a.read_only (codes "ReadOnly") ++ (word_if a.hidden (codes "Hidden")
-    ++ (word_if a.system (codes "System") ++ (word_if a.archive (codes "Archive")
-    ++ (word_if a.temporary (codes "Temporary") ++ (word_if a.offline (codes "Offline")
-    ++ (word_if a.not_content_indexed (codes "NotContentIndexed")
-    ++ (word_if a.no_scrub_data (codes "NoScrubData") ++ word_if a.directory (codes "Directory"))))))))
+-- the words of attributes with their flags, in their order
+abbrev pub attribute_flags : Attributes → List (Bool × List ℕ)
+attribute_flags a =
+    (a.read_only, codes "ReadOnly") ∷ (a.hidden, codes "Hidden") ∷ (a.system, codes "System")
+    ∷ (a.archive, codes "Archive") ∷ (a.temporary, codes "Temporary") ∷ (a.offline, codes "Offline")
+    ∷ (a.not_content_indexed, codes "NotContentIndexed") ∷ (a.no_scrub_data, codes "NoScrubData")
+    ∷ (a.directory, codes "Directory") ∷ []
 
 -- words with bars between them, or `None`
 abbrev pub words_text : List (List ℕ) → List ℕ
@@ -81,7 +81,7 @@ words_text (word ∷ words) = word ++ flat_map (λ w. 124 ∷ w) words
 
 -- attributes: the words of those that are set with bars between them, or `None`
 unfoldable pub attributes_text : Attributes → List ℕ
-attributes_text a = words_text (attribute_words a)
+attributes_text a = words_text (words_said (attribute_flags a))
 
 -- the moment of a snapshot behind `@`, where one is named
 abbrev pub at_moment : Option ℕ → List ℕ
