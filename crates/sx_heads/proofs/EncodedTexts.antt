@@ -4,7 +4,7 @@ use Rattle.std.proofs.Common.{arith, subst, refl, sym, ap, ◌∙◌, inl, inr, 
 use Rattle.std.specs.Prelude.{All, is_none}
 use Rattle.std.proofs.lemmas.Bool.{false≢true, cases_lt, ltb-true, lt-ltb, le-ltb, and_parts}
 use Rattle.std.proofs.lemmas.List.Elements.{All-head, All-tail, All-nil, All-cons, All-append}
-use Rattle.std.proofs.lemmas.Str.{IsUtf8-from_is_utf8}
+use Rattle.std.proofs.lemmas.Str.{IsUtf8-from_is_utf8, is_utf8-from_IsUtf8, IsUtf8-from_ascii}
 use Rattle.std.proofs.lemmas.Bool.Decides.{nat_tests}
 use Rattle.std.specs.List.{find, range_with_len}
 use Rattle.std.specs.Char.{is_digit, encode_utf8, IsScalar}
@@ -13,7 +13,7 @@ use Rattle.std.specs.Str.{is_utf8, all_scalars}
 use Rattle.percent_encoding.specs.declared.ascii_set.AsciiSet.{AsciiSet}
 use Rattle.percent_encoding.specs.AsciiSet.{should_percent_encode, contains}
 use Rattle.percent_encoding.specs.Percent.{percent_encode, percent_encode_byte, percent_decode}
-use Rattle.percent_encoding.proofs.PercentLemmas.{IsByte, IsEscapeByte, percent_encode-nil, percent_encode_escaped, percent_encode_kept, round_trip, All-percent_encode}
+use Rattle.percent_encoding.proofs.PercentLemmas.{IsByte, IsEscapeByte, percent_encode-nil, percent_encode_escaped, percent_encode_kept, round_trip, All-percent_encode, IsAscii-percent_encode}
 use Rattle.sx_decode.specs.Escapes.{is_bad_at, first_bad, if_utf8, decoded_text}
 use Rattle.sx_heads.specs.declared.escapes.TheConstants.{PLAIN}
 use Rattle.sx_heads.specs.Values.{escaped}
@@ -180,3 +180,7 @@ lacks_question bs = lacks 63 bs plain_question no_question_byte
 
 pub lacks_and : (bs : List ℕ) → All (λ b. (b == 38) ≡ false) (escaped bs)
 lacks_and bs = lacks 38 bs plain_and no_and_byte
+
+-- an encoded text is a text
+pub escaped_utf8 : (bs : List ℕ) → is_utf8 (escaped bs) ≡ true
+escaped_utf8 bs = is_utf8-from_IsUtf8 (escaped bs) (IsUtf8-from_ascii (escaped bs) (IsAscii-percent_encode PLAIN bs))

@@ -7,4 +7,8 @@ pub mod ReadValues
 pub mod AttributeWords
 pub mod MetaFields
 pub mod Requests
+pub mod FieldReads
+pub mod RowTables
 pub mod ShareRequests
+pub mod DirectoryRequests
+pub mod FileRequests

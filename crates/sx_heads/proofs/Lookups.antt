@@ -1,12 +1,12 @@
 -- The headers of fields, looked up by name.
-use Rattle.std.proofs.Common.{◌≡◌, ℕ, Bool, true, false, cond, not, ◌&&◌, List, [], ◌∷◌, ◌++◌, map, codes, bytes_eq}
+use Rattle.std.proofs.Common.{◌≡◌, ℕ, Bool, true, false, cond, not, ◌&&◌, ◌||◌, is_some, List, [], ◌∷◌, ◌++◌, map, codes, bytes_eq}
 use Rattle.std.proofs.Common.{Option, Some, None, Ok, refl, sym, ap, ◌∙◌, append-nil}
 use Rattle.std.specs.Prelude.{if◌then◌else◌}
 use Rattle.std.specs.List.{filter}
 use Rattle.std.proofs.lemmas.Bool.{false≢true}
 use Rattle.std.proofs.lemmas.List.Elements.{filter-append}
 use Rattle.std.proofs.lemmas.List.{map-append}
-use Rattle.sx_http.specs.Lookup.{is_named, header_values}
+use Rattle.sx_http.specs.Lookup.{is_named, has_header, header_values}
 use Rattle.sx_http.specs.declared.heads.Header.{Header}
 use Rattle.sx_names.specs.declared.meta_pair.MetaPair.{MetaPair}
 use Rattle.sx_call.specs.declared.refusals.Syntax.{Syntax}
@@ -88,3 +88,32 @@ only_listed s (Some v) = refl
 pub one_is : (n : List ℕ) (fs : List Field) → IsPlain n → is_single n fs ≡ true → one_header n (with_fields [] fs) ≡ Ok (value_in n fs)
 unfolding one_header
 one_is n fs other e = ap (λ (xs : List (List ℕ)). only (BadHeader n) xs) (values-single n other fs [] e) ∙ only_listed (BadHeader n) (value_in n fs)
+
+-- whether there are some
+abbrev has_some : List (List ℕ) → Bool
+has_some [] = false
+has_some (v ∷ vs) = true
+
+has_step : (b : Bool) (v : List ℕ) (rest : Bool) (vs : List (List ℕ)) → rest ≡ has_some vs → (b || rest) ≡ has_some (cond b (v ∷ vs) vs)
+has_step true v rest vs e = refl
+has_step false v rest vs e = e
+
+has_values : (n : List ℕ) (hs : List Header) → has_header n hs ≡ has_some (header_values n hs)
+has_values n [] = refl
+has_values n (h ∷ hs) = has_step (is_named n h) h.value (has_header n hs) (header_values n hs) (has_values n hs) ∙ same (is_named n h)
+  where
+    same : (b : Bool) → has_some (cond b (h.value ∷ header_values n hs) (header_values n hs)) ≡ has_some (map (λ (x : Header). x.value) (cond b (h ∷ filter (is_named n) hs) (filter (is_named n) hs)))
+    same true = refl
+    same false = refl
+
+has_listed : (v : Option (List ℕ)) → has_some (listed v) ≡ is_some v
+has_listed None = refl
+has_listed (Some v) = refl
+
+-- the headers of a name are the value of its field
+pub values_are : (n : List ℕ) (fs : List Field) → IsPlain n → is_single n fs ≡ true → header_values n (with_fields [] fs) ≡ listed (value_in n fs)
+values_are n fs other e = values-single n other fs [] e
+
+-- a header is there where its field has a value
+pub has_is : (n : List ℕ) (fs : List Field) → IsPlain n → is_single n fs ≡ true → has_header n (with_fields [] fs) ≡ is_some (value_in n fs)
+has_is n fs other e = has_values n (with_fields [] fs) ∙ ap has_some (values_are n fs other e) ∙ has_listed (value_in n fs)

@@ -22,6 +22,7 @@ use Rattle.sx_text.specs.Escapes.{Chars, IsWhole}
 use Rattle.sx_text.proofs.Utf8.{whole_utf8}
 use Rattle.sx_base.specs.Moment.{Day, TimeOfDay, Fields, day_text, time_text, fields_text, fields_at_moment, moment_text, IsWritten}
 use Rattle.sx_lease.specs.declared.lease.LeaseId.{LeaseId}
+use Rattle.sx_names.specs.Limits.{IsPageSize}
 use Rattle.sx_call.specs.FieldLimits.{IsLeaseId}
 use Rattle.sx_decode.specs.Numbers.{number_of}
 use Rattle.sx_decode.specs.Moments.{moment_of}
@@ -47,6 +48,19 @@ ascii_utf8 bytes h = whole_utf8 bytes (ascii_whole bytes h)
 pub ascii_both : (xs ys : List ℕ) → AreAscii xs → AreAscii ys → AreAscii (xs ++ ys)
 ascii_both [] ys p q = q
 ascii_both (x ∷ xs) ys p q = (p.0, ascii_both xs ys p.1 q)
+
+low_text : (bytes : List ℕ) → list_all (λ b. nat_lt b 128) bytes ≡ true → AreAscii bytes
+low_text [] e = tt
+low_text (b ∷ bs) e =
+    let both = and_parts (nat_lt b 128) (list_all (λ x. nat_lt x 128) bs) e in
+    (low_byte_of b both.0, low_text bs both.1)
+  where
+    low_byte_of : (x : ℕ) → nat_lt x 128 ≡ true → x < 128
+    low_byte_of x h = grind (arith, nat_tests, h)
+
+-- a text that is tested to be ASCII
+pub plain_utf8 : (bytes : List ℕ) → list_all (λ b. nat_lt b 128) bytes ≡ true → is_utf8 bytes ≡ true
+plain_utf8 bytes e = ascii_utf8 bytes (low_text bytes e)
 
 -- ---- decimal numbers
 
@@ -87,6 +101,12 @@ digits_ascii (d ∷ ds) h =
 
 pub decimal_ascii : (n : ℕ) → n < 2 ^ 64 → AreAscii (decimal n)
 decimal_ascii n lt = digits_ascii (decimal n) (decimal_digits n lt)
+
+page_fits : (n : ℕ) → IsPageSize n → n < 2 ^ 64
+page_fits n h = let high = h.most in omega (arith, high)
+
+pub decimal_utf8 : (n : ℕ) → IsPageSize n → is_utf8 (decimal n) ≡ true
+decimal_utf8 n h = ascii_utf8 (decimal n) (decimal_ascii n (page_fits n h))
 
 -- a text that begins with a digit isn't one that begins otherwise
 digits_first : (ds more : List ℕ) (c : ℕ) (rest : List ℕ) → list_all is_ascii_digit ds ≡ true → 0 < length ds → is_ascii_digit c ≡ false → bytes_eq (ds ++ more) (c ∷ rest) ≡ false

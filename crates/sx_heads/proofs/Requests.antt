@@ -1,10 +1,13 @@
 -- A request that is spelled is read part by part.
-use Rattle.std.proofs.Common.{◌≡◌, ℕ, Bool, true, false, List, [], ◌∷◌, ◌++◌, length, codes, bytes_eq, Option, Some, None, Ok, refl, sym, ap, ◌∙◌}
+use Rattle.std.proofs.Common.{◌≡◌, ℕ, Bool, true, false, List, [], ◌∷◌, ◌++◌, length, codes, bytes_eq, is_some, Option, Some, None, Ok, refl, sym, ap, ◌∙◌}
 use Rattle.std.specs.Prelude.{IfSome}
 use Rattle.std.specs.List.{before_first, after_first}
 use Rattle.std.specs.Option.{option_map}
 use Rattle.std.specs.Str.{is_utf8}
+use Rattle.sx_http.specs.Lookup.{has_header, header_values}
 use Rattle.sx_http.specs.declared.heads.Header.{Header}
+use Rattle.sx_names.specs.Meta.{is_meta}
+use Rattle.sx_names.specs.declared.meta_pair.MetaPair.{MetaPair}
 use Rattle.sx_base.specs.Moment.{moment_text, IsWritten}
 use Rattle.sx_call.specs.declared.calls.Call.{Call}
 use Rattle.sx_decode.specs.declared.asked.Asked.{Asked}
@@ -13,6 +16,7 @@ use Rattle.sx_decode.specs.declared.forms.Verb.{Verb}
 use Rattle.sx_decode.specs.declared.targets.Place.{Place}
 use Rattle.sx_decode.specs.Reading.{Reading, with_next}
 use Rattle.sx_decode.specs.Lookup.{one_header}
+use Rattle.sx_decode.specs.Metadata.{meta_of}
 use Rattle.sx_decode.specs.Words.{is_word, is_word_in_blanks}
 use Rattle.sx_decode.specs.Parameters.{is_question, parameters}
 use Rattle.sx_decode.specs.Asked.{snapshot_named, snapshot_asked, or_empty, query_text, prefix_asked, page_size, page_asked, includes_snapshots, snapshots_asked, asked_of}
@@ -22,7 +26,8 @@ use Rattle.sx_heads.specs.Fields.{Field, with_fields}
 use Rattle.sx_heads.specs.Targets.{Query, path_text, asks}
 use Rattle.sx_heads.specs.Targets as target
 use Rattle.sx_heads.specs.Spellings.{Spelling, ending, target_text, headers_spelled, request_of}
-use Rattle.sx_heads.proofs.Lookups.{IsPlain, value_in, is_single, one_is}
+use Rattle.sx_heads.proofs.Lookups.{IsPlain, value_in, is_single, listed, one_is, has_is, values_are}
+use Rattle.sx_heads.proofs.MetaFields.{are_others, metas_in, meta_back}
 use Rattle.sx_heads.proofs.Paths.{IsPlace, place_back, path_lacks}
 use Rattle.sx_heads.proofs.PlainTexts.{ascii_utf8, moment_ascii}
 use Rattle.sx_heads.proofs.Queries.{params_of, cut_back, parameters_back, parameter_back}
@@ -32,6 +37,20 @@ use Rattle.sx_heads.proofs.ReadValues.{snapshot_back, query_text_back}
 pub field_is : (n : List ℕ) (fields : List Field) (body : List ℕ) → IsPlain n → is_single n (fields ++ ending body) ≡ true → one_header n (headers_spelled fields body) ≡ Ok (value_in n (fields ++ ending body))
 unfolding headers_spelled
 field_is n fields body plain single = one_is n (fields ++ ending body) plain single
+
+-- whether it is there, and its values
+pub has_field : (n : List ℕ) (fields : List Field) (body : List ℕ) → IsPlain n → is_single n (fields ++ ending body) ≡ true → has_header n (headers_spelled fields body) ≡ is_some (value_in n (fields ++ ending body))
+unfolding headers_spelled
+has_field n fields body plain single = has_is n (fields ++ ending body) plain single
+
+pub values_of_field : (n : List ℕ) (fields : List Field) (body : List ℕ) → IsPlain n → is_single n (fields ++ ending body) ≡ true → header_values n (headers_spelled fields body) ≡ listed (value_in n (fields ++ ending body))
+unfolding headers_spelled
+values_of_field n fields body plain single = values_are n (fields ++ ending body) plain single
+
+-- metadata that is spelled is read
+pub meta_is : (fields : List Field) (body : List ℕ) (ms : List MetaPair) → are_others (fields ++ ending body) ≡ true → metas_in (fields ++ ending body) ≡ ms → is_meta ms ≡ true → meta_of (headers_spelled fields body) ≡ Ok ms
+unfolding headers_spelled
+meta_is fields body ms e is m = meta_back (fields ++ ending body) ms e is m
 
 -- the version stands once among the fields
 abbrev pub HasVersion : List Field → List ℕ → Type 0
@@ -100,14 +119,14 @@ plain_asked restype comp snap = record {
   snapshots = false;
 }
 
-empty_text : is_utf8 [] ≡ true
+pub empty_text : is_utf8 [] ≡ true
 empty_text = ascii_utf8 [] tt
 
-no_words : includes_snapshots [] ≡ false
+pub no_words : includes_snapshots [] ≡ false
 unfolding includes_snapshots is_word_in_blanks is_word
 no_words = refl
 
-moment_if : (snap : Option ℕ) → IfSome (option_map moment_text snap) (λ v. is_utf8 v ≡ true)
+pub moment_if : (snap : Option ℕ) → IfSome (option_map moment_text snap) (λ v. is_utf8 v ≡ true)
 moment_if None = tt
 moment_if (Some at) = ascii_utf8 (moment_text at) (moment_ascii at)
 
