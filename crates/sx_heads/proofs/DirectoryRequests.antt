@@ -34,7 +34,7 @@ use Rattle.sx_heads.specs.Spellings.{headers_spelled, request_of}
 use Rattle.sx_heads.specs.Values.{id_text, attributes_text, bytes_text, interval_text, time_text, bool_text, handle_or_all}
 use Rattle.sx_heads.proofs.Requests.{field_is, has_field, values_of_field, meta_is, reads_as, reads_plain, plain_asked}
 use Rattle.sx_heads.proofs.PlainTexts.{plain_utf8}
-use Rattle.sx_heads.proofs.ReadValues.{IsReadDigest}
+use Rattle.sx_heads.specs.Digests.{IsReadDigest}
 use Rattle.sx_heads.proofs.FieldReads.{Holds, new_quota_read, set_quota_read, include_read, lease_read, scope_read, below_read, new_attributes_read, set_attributes_read, new_time_read, set_time_read, new_length_read, set_length_read, word_read, recursive_read, handle_read, HoldsContent, content_read, span_read, interval_read, action_back}
 use Rattle.sx_heads.proofs.RowTables.{verb_is_get, verb_is_put, verb_is_head, verb_is_delete, has_parts, is_some_map}
 use Rattle.std.specs.Str.{is_utf8}

@@ -31,11 +31,12 @@ use Rattle.sx_decode.specs.Leases.{maybe_id, needed_id, lease_of, scope_of, dura
 use Rattle.sx_decode.specs.Ranges.{range_name, span_of, interval_of}
 use Rattle.sx_decode.specs.ShareRows.{new_quota, set_quota, include_of}
 use Rattle.sx_decode.specs.Targets.{below_root}
+use Rattle.sx_heads.specs.Digests.{IsReadDigest}
 use Rattle.sx_heads.specs.Spellings.{headers_spelled}
 use Rattle.sx_heads.specs.ShareSpellings.{said_if, action_fields}
 use Rattle.sx_heads.specs.Values.{id_text, digest_text, bytes_text, interval_text, handle_or_all, bool_text, time_text, attributes_text}
 use Rattle.sx_heads.proofs.AttributeWords.{attributes_back, attributes_kept_back}
-use Rattle.sx_heads.proofs.ReadValues.{IsReadDigest, quota_back, length_back, length_if_back, id_given_back, id_read_back, scope_back, time_now_back, time_kept_back, first_back, interval_back, handle_back, recursive_back, text_given_back, digest_given_back}
+use Rattle.sx_heads.proofs.ReadValues.{quota_back, length_back, length_if_back, id_given_back, id_read_back, scope_back, time_now_back, time_kept_back, first_back, interval_back, handle_back, recursive_back, text_given_back, digest_given_back}
 use Rattle.sx_heads.proofs.Requests.{field_is}
 
 -- the header of a name has a value, or is absent

@@ -12,3 +12,5 @@ pub mod RowTables
 pub mod ShareRequests
 pub mod DirectoryRequests
 pub mod FileRequests
+pub mod ReadBack
+pub mod SpelledWords

@@ -39,7 +39,7 @@ use Rattle.sx_decode.specs.Ranges.{is_dash, bytes_of, bounds_of, from_first, to_
 use Rattle.sx_decode.specs.Markers.{is_at, shares_marker, shares_read, share_in_marker, moment_in_marker, names_marker, handles_marker}
 use Rattle.sx_decode.specs.ShareRows.{quota_read}
 use Rattle.sx_decode.specs.FileRows.{length_read, length_if_given}
-use Rattle.sx_names.specs.Content.{md5_of}
+use Rattle.sx_heads.specs.Digests.{IsReadDigest}
 use Rattle.sx_heads.specs.Values.{escaped, id_text, bytes_text, last_text, interval_text, handle_text, handle_or_all, bool_text, time_text, at_moment, shares_marker_text, digest_text}
 use Rattle.sx_heads.proofs.EncodedTexts.{text_back, apart_from}
 use Rattle.sx_heads.proofs.Paths.{cut_at, cut_none, share_name_all}
@@ -238,10 +238,6 @@ handle_ascii h k =
 pub text_given_back : (name : List ℕ) (o : Option (List ℕ)) → IsContentText o → text_read name o ≡ Ok o
 text_given_back name None h = refl
 text_given_back name (Some text) h = rw h refl
-
--- a digest whose text is read as it
-abbrev pub IsReadDigest : Option (List ℕ) → Type 0
-IsReadDigest o = IfSome o (λ bytes. md5_of (digest_text bytes) ≡ Some bytes)
 
 pub digest_given_back : (name : List ℕ) (o : Option (List ℕ)) → IsReadDigest o → digest_if_given name (option_map digest_text o) ≡ Ok o
 digest_given_back name None h = refl

@@ -3,3 +3,7 @@
 
 pub mod escapes;
 mod laws;
+mod targets;
+mod values;
+
+pub use laws::calls_are_read_back;
