@@ -14,3 +14,4 @@ pub mod DirectoryRequests
 pub mod FileRequests
 pub mod ReadBack
 pub mod SpelledWords
+pub mod MetaHeaders

@@ -17,6 +17,7 @@ use Rattle.sx_lease.specs.declared.lease.LeaseId.{LeaseId}
 use Rattle.sx_names.specs.Limits.{IsQuota, IsPageSize}
 use Rattle.sx_names.specs.Names.{is_share_name, is_share_byte}
 use Rattle.sx_names.specs.Header.{is_content_text}
+use Rattle.sx_names.specs.MetaPair.{is_meta_name, is_meta_byte}
 use Rattle.sx_call.specs.FieldLimits.{IsLeaseId, IsHandleId, IsSharesMarker, IsTime, IsContentText}
 use Rattle.sx_call.specs.Leases.{ReadScope, is_read_scope}
 use Rattle.sx_call.specs.Lengths.{is_file_length}
@@ -271,6 +272,10 @@ share_low (b ∷ bs) e =
     let both = and_parts (is_share_byte b) (list_all is_share_byte bs) e in
     (share_byte_low b both.0, share_low bs both.1)
 
+-- a share's name is a text
+pub share_utf8 : (name : List ℕ) → is_share_name name ≡ true → is_utf8 name ≡ true
+share_utf8 name e = ascii_utf8 name (share_low name (share_name_all name e))
+
 none_at : (name : List ℕ) → All (λ b. (b == 64) ≡ false) name → list_any is_at name ≡ false
 none_at [] h = refl
 none_at (b ∷ bs) h = rw (All-head (λ b. (b == 64) ≡ false) b bs h) (none_at bs (All-tail (λ b. (b == 64) ≡ false) b bs h))
@@ -301,3 +306,17 @@ at_ascii (Some at) = (omega arith, moment_ascii at)
 pub shares_marker_ascii : (m : SharesMarker) → IsSharesMarker m → AreAscii (shares_marker_text m)
 unfolding shares_marker_text
 shares_marker_ascii m h = ascii_both m.share (at_moment m.snapshot) (share_low m.share (share_name_all m.share h.0)) (at_ascii m.snapshot)
+
+meta_byte_low : (b : ℕ) → is_meta_byte b ≡ true → b < 128
+meta_byte_low b e = grind (arith, nat_tests, e)
+
+meta_low : (name : List ℕ) → list_all is_meta_byte name ≡ true → AreAscii name
+meta_low [] e = tt
+meta_low (b ∷ bs) e =
+    let both = and_parts (is_meta_byte b) (list_all is_meta_byte bs) e in
+    (meta_byte_low b both.0, meta_low bs both.1)
+
+-- a name of metadata is a text
+pub meta_name_utf8 : (name : List ℕ) → is_meta_name name ≡ true → is_utf8 name ≡ true
+unfolding is_meta_name
+meta_name_utf8 name e = ascii_utf8 name (meta_low name (and_parts _ (list_all is_meta_byte name) (and_parts _ _ e).0).1)

@@ -59,7 +59,7 @@ said_some ((false, w) ∷ flags) h = said_some flags h.1
 some_flags : (a : Attributes) → AreSomeFlags (attribute_flags a)
 some_flags a = (omega arith, (omega arith, (omega arith, (omega arith, (omega arith, (omega arith, (omega arith, (omega arith, (omega arith, tt)))))))))
 
-pub words_are : (a : Attributes) → or_none (with_latter (with_former [] a) a) ≡ attributes_text a
+pub words_are : (a : Attributes) → or_none (with_word (with_latter (with_former [] a) a) a.directory (codes "Directory")) ≡ attributes_text a
 unfolding attributes_text
 words_are a =
     ap or_none (words_added [] (attribute_flags a) tt (some_flags a)) ∙ or_none_is (words_said (attribute_flags a)) (said_some (attribute_flags a) (some_flags a))

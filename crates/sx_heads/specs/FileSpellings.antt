@@ -41,19 +41,23 @@ content_fields content fields =
 abbrev pub range_field : Option (List ℕ) → Field
 range_field text = one (codes "x-ms-range") text
 
+-- the attributes, times, metadata and lease id of a new file
+abbrev pub new_facts : CreateFile → List Field
+new_facts c =
+    one (codes "x-ms-file-attributes") (Some (attributes_text c.attributes))
+    ∷ created_field (option_map moment_text c.created)
+    ∷ written_field (option_map moment_text c.written)
+    ∷ metas c.meta
+    ∷ lease_field c.lease
+    ∷ []
+
 -- Create File
 unfoldable pub create_file : CreateFile → Spelling
 create_file c =
     bodiless (codes "PUT") (Inside c.at) (of_file None None) (
     one (codes "x-ms-type") (Some (codes "file"))
     ∷ one (codes "x-ms-content-length") (Some (decimal c.length))
-    ∷ content_fields c.content (
-    one (codes "x-ms-file-attributes") (Some (attributes_text c.attributes))
-    ∷ created_field (option_map moment_text c.created)
-    ∷ written_field (option_map moment_text c.written)
-    ∷ metas c.meta
-    ∷ lease_field c.lease
-    ∷ []))
+    ∷ content_fields c.content (new_facts c))
 
 -- Get File
 unfoldable pub get_file : GetFile → Spelling
@@ -68,17 +72,21 @@ unfoldable pub get_file_properties : GetFileProperties → Spelling
 get_file_properties c =
     bodiless (codes "HEAD") (Inside c.at) (of_file None c.scope.snap) (lease_field c.scope.lease ∷ [])
 
+-- the attributes, times and lease id that are set
+abbrev pub set_facts : SetFileProperties → List Field
+set_facts c =
+    one (codes "x-ms-file-attributes") (option_map attributes_text c.attributes)
+    ∷ created_field (Some (time_text c.created))
+    ∷ written_field (Some (time_text c.written))
+    ∷ lease_field c.lease
+    ∷ []
+
 -- Set File Properties
 unfoldable pub set_file_properties : SetFileProperties → Spelling
 set_file_properties c =
     bodiless (codes "PUT") (Inside c.at) (of_file (Some (codes "properties")) None) (
     one (codes "x-ms-content-length") (option_map decimal c.length)
-    ∷ content_fields c.content (
-    one (codes "x-ms-file-attributes") (option_map attributes_text c.attributes)
-    ∷ created_field (Some (time_text c.created))
-    ∷ written_field (Some (time_text c.written))
-    ∷ lease_field c.lease
-    ∷ []))
+    ∷ content_fields c.content (set_facts c))
 
 -- Get File Metadata
 unfoldable pub get_file_metadata : GetFileMetadata → Spelling

@@ -20,9 +20,8 @@ with_former text a =
     with_word (with_word (with_word (with_word text a.read_only (codes "ReadOnly")) a.hidden (codes "Hidden"))
     a.system (codes "System")) a.archive (codes "Archive")
 
--- words with those of the other five
+-- words with those of the next four
 abbrev pub with_latter : List ℕ → Attributes → List ℕ
 with_latter text a =
-    with_word (with_word (with_word (with_word (with_word text a.temporary (codes "Temporary")) a.offline
-    (codes "Offline")) a.not_content_indexed (codes "NotContentIndexed")) a.no_scrub_data (codes "NoScrubData"))
-    a.directory (codes "Directory")
+    with_word (with_word (with_word (with_word text a.temporary (codes "Temporary")) a.offline (codes "Offline"))
+    a.not_content_indexed (codes "NotContentIndexed")) a.no_scrub_data (codes "NoScrubData")

@@ -104,8 +104,26 @@ pub(crate) fn ask_snapshot(alloc: Global, query: &mut Text, moment: Option<Momen
     }
 }
 
+/// A query for no page.
+#[tactic(auto, unfolding(crate::specs::Targets::query_text))]
+pub(crate) fn plain_query(
+    alloc: Global,
+    restype: Restype,
+    comp: Comp,
+    snap: Option<Moment>,
+) -> Result<Text, NoMemory>
+    ensures { IfOk result (λ q. q ≡ query_text (asks (restype_text restype) (comp_text comp)
+        (option_map moment_text snap))) }
+{
+    let mut query = Text::new(alloc);
+    ask_restype(alloc, &mut query, restype)?;
+    ask_comp(alloc, &mut query, comp)?;
+    ask_snapshot(alloc, &mut query, snap)?;
+    Ok(query)
+}
+
 /// The target of a call that asks for no page: of a share, or of what is in it.
-#[tactic(auto, unfolding(crate::specs::Spellings::target_text, crate::specs::Targets::query_text))]
+#[tactic(auto, unfolding(crate::specs::Spellings::target_text))]
 pub(crate) fn target_text(
     alloc: Global,
     share: &ShareName,
@@ -118,10 +136,7 @@ pub(crate) fn target_text(
         (asks (restype_text restype) (comp_text comp) (option_map moment_text snap))) }
 {
     let mut text = path_text(alloc, share, parts)?;
-    let mut query = Text::new(alloc);
-    ask_restype(alloc, &mut query, restype)?;
-    ask_comp(alloc, &mut query, comp)?;
-    ask_snapshot(alloc, &mut query, snap)?;
+    let query = plain_query(alloc, restype, comp, snap)?;
     text.append(query.as_str())?;
     Ok(text)
 }

@@ -117,8 +117,7 @@ fn add_latter(text: &mut Text, a: &Attributes) -> Result<(), NoMemory>
     add_word(text, a.temporary, "Temporary")?;
     add_word(text, a.offline, "Offline")?;
     add_word(text, a.not_content_indexed, "NotContentIndexed")?;
-    add_word(text, a.no_scrub_data, "NoScrubData")?;
-    add_word(text, a.directory, "Directory")
+    add_word(text, a.no_scrub_data, "NoScrubData")
 }
 
 /// The words of attributes with bars between them, or `None`.
@@ -129,6 +128,7 @@ pub(crate) fn attributes_text(alloc: Global, a: &Attributes) -> Result<Text, NoM
     let mut text = Text::new(alloc);
     add_former(&mut text, a)?;
     add_latter(&mut text, a)?;
+    add_word(&mut text, a.directory, "Directory")?;
     or_none(alloc, text)
 }
 
