@@ -164,15 +164,17 @@ no_scrub_data_stands a = any_is (names (codes "NoScrubData")) (attribute_flags a
 
 once : (a : Attributes) → are_once (words_said (attribute_flags a)) ≡ true
 unfolding is_word_in_blanks is_word
-once a = rw (once_is (codes "ReadOnly") (attribute_flags a) refl,
-    once_is (codes "Hidden") (attribute_flags a) refl,
-    once_is (codes "System") (attribute_flags a) refl,
-    once_is (codes "Archive") (attribute_flags a) refl,
-    once_is (codes "Temporary") (attribute_flags a) refl,
-    once_is (codes "Offline") (attribute_flags a) refl,
-    once_is (codes "NotContentIndexed") (attribute_flags a) refl,
-    once_is (codes "NoScrubData") (attribute_flags a) refl,
-    once_is (codes "Directory") (attribute_flags a) refl) refl
+once a = rw (
+  once_is (codes "ReadOnly") (attribute_flags a) refl,
+  once_is (codes "Hidden") (attribute_flags a) refl,
+  once_is (codes "System") (attribute_flags a) refl,
+  once_is (codes "Archive") (attribute_flags a) refl,
+  once_is (codes "Temporary") (attribute_flags a) refl,
+  once_is (codes "Offline") (attribute_flags a) refl,
+  once_is (codes "NotContentIndexed") (attribute_flags a) refl,
+  once_is (codes "NoScrubData") (attribute_flags a) refl,
+  once_is (codes "Directory") (attribute_flags a) refl,
+) refl
 
 directory_words : (a : Attributes) → a.directory ≡ true → list_all (is_attribute true) (words_said (attribute_flags a)) ≡ true
 unfolding is_former_attribute is_latter_attribute is_attribute is_word_in_blanks is_word

@@ -80,7 +80,7 @@ get_directory_properties_row c hs false e = rw e refl
 
 get_directory_properties_call : (c : GetDirectoryProperties) (hs : List Header) → IsWithinLimits (call.GetDirectoryProperties c)
     → call_by_row row.GetDirectoryProperties (Inside c.at) (plain_asked (Some (codes "directory")) None c.snap) hs [] ≡ Ok (call.GetDirectoryProperties c)
-unfolding call_by_row call_inside call_without_body bodiless_call inside_call plain_call directory_call file_call no_body 
+unfolding call_by_row call_inside call_without_body bodiless_call inside_call plain_call directory_call file_call no_body
 get_directory_properties_call c hs h = refl
 
 pub get_directory_properties_back : (c : GetDirectoryProperties) → IsWithinLimits (call.GetDirectoryProperties c) → IsReadAs (call.GetDirectoryProperties c) (request_of (spelled.get_directory_properties c))
@@ -99,7 +99,7 @@ get_directory_metadata_row c hs false e = rw e refl
 
 get_directory_metadata_call : (c : GetDirectoryMetadata) (hs : List Header) → IsWithinLimits (call.GetDirectoryMetadata c)
     → call_by_row row.GetDirectoryMetadata (Inside c.at) (plain_asked (Some (codes "directory")) (Some (codes "metadata")) c.snap) hs [] ≡ Ok (call.GetDirectoryMetadata c)
-unfolding call_by_row call_inside call_without_body bodiless_call inside_call plain_call directory_call file_call no_body 
+unfolding call_by_row call_inside call_without_body bodiless_call inside_call plain_call directory_call file_call no_body
 get_directory_metadata_call c hs h = refl
 
 pub get_directory_metadata_back : (c : GetDirectoryMetadata) → IsWithinLimits (call.GetDirectoryMetadata c) → IsReadAs (call.GetDirectoryMetadata c) (request_of (spelled.get_directory_metadata c))

@@ -116,9 +116,19 @@ pub record HoldsContent (hs : List Header) (c : Content) : Type 0 where
 pub content_read : (hs : List Header) (c : Content) → IsContent c → IsReadDigest c.md5 → HoldsContent hs c → content_of hs ≡ Ok c
 unfolding content_of content_text digest_of
 content_read hs c h d e = rw (
-    e.kind, text_given_back (codes "x-ms-content-type") c.kind h.0, e.encoding, text_given_back (codes "x-ms-content-encoding") c.encoding h.1,
-    e.language, text_given_back (codes "x-ms-content-language") c.language h.2, e.cache_control, text_given_back (codes "x-ms-cache-control") c.cache_control h.3,
-    e.disposition, text_given_back (codes "x-ms-content-disposition") c.disposition h.4, e.md5, digest_given_back (codes "x-ms-content-md5") c.md5 d) refl
+  e.kind,
+  text_given_back (codes "x-ms-content-type") c.kind h.0,
+  e.encoding,
+  text_given_back (codes "x-ms-content-encoding") c.encoding h.1,
+  e.language,
+  text_given_back (codes "x-ms-content-language") c.language h.2,
+  e.cache_control,
+  text_given_back (codes "x-ms-cache-control") c.cache_control h.3,
+  e.disposition,
+  text_given_back (codes "x-ms-content-disposition") c.disposition h.4,
+  e.md5,
+  digest_given_back (codes "x-ms-content-md5") c.md5 d,
+) refl
 
 pub span_read : (hs : List Header) (o : Option BytesFrom) → IfSome o (λ b. is_first b ≡ true) → has_header (codes "x-ms-range") hs ≡ is_some o → has_header (codes "range") hs ≡ false
     → Holds (codes "x-ms-range") hs (option_map bytes_text o) → span_of hs ≡ Ok o
@@ -136,15 +146,27 @@ pub action_back : (action : LeaseAction) → IsLeaseAction action → lease_acti
 unfolding lease_action needed_header action_named acquire_of change_of release_of duration_of maybe_id needed_id is_word
 action_back (Acquire proposed) h =
     let fields = action_fields (Acquire proposed) in
-    rw (field_is (codes "x-ms-lease-action") fields [] (λ m. refl) refl, field_is (codes "x-ms-lease-duration") fields [] (λ m. refl) refl,
-    field_is (codes "x-ms-proposed-lease-id") fields [] (λ m. refl) refl, id_given_back (codes "x-ms-proposed-lease-id") proposed h) refl
+    rw (
+      field_is (codes "x-ms-lease-action") fields [] (λ m. refl) refl,
+      field_is (codes "x-ms-lease-duration") fields [] (λ m. refl) refl,
+      field_is (codes "x-ms-proposed-lease-id") fields [] (λ m. refl) refl,
+      id_given_back (codes "x-ms-proposed-lease-id") proposed h,
+    ) refl
 action_back (Change id to) h =
     let fields = action_fields (Change id to) in
-    rw (field_is (codes "x-ms-lease-action") fields [] (λ m. refl) refl, field_is (codes "x-ms-lease-id") fields [] (λ m. refl) refl,
-    field_is (codes "x-ms-proposed-lease-id") fields [] (λ m. refl) refl, id_read_back (codes "x-ms-lease-id") id h.0, id_read_back (codes "x-ms-proposed-lease-id") to h.1) refl
+    rw (
+      field_is (codes "x-ms-lease-action") fields [] (λ m. refl) refl,
+      field_is (codes "x-ms-lease-id") fields [] (λ m. refl) refl,
+      field_is (codes "x-ms-proposed-lease-id") fields [] (λ m. refl) refl,
+      id_read_back (codes "x-ms-lease-id") id h.0,
+      id_read_back (codes "x-ms-proposed-lease-id") to h.1,
+    ) refl
 action_back (Release id) h =
     let fields = action_fields (Release id) in
-    rw (field_is (codes "x-ms-lease-action") fields [] (λ m. refl) refl, field_is (codes "x-ms-lease-id") fields [] (λ m. refl) refl,
-    id_read_back (codes "x-ms-lease-id") id h) refl
+    rw (
+      field_is (codes "x-ms-lease-action") fields [] (λ m. refl) refl,
+      field_is (codes "x-ms-lease-id") fields [] (λ m. refl) refl,
+      id_read_back (codes "x-ms-lease-id") id h,
+    ) refl
 action_back Break h =
     rw (field_is (codes "x-ms-lease-action") (action_fields Break) [] (λ m. refl) refl) refl

@@ -278,8 +278,12 @@ clear_range_call : (c : ClearRange) (hs : List Header) → IsWithinLimits (call.
     → has_header (codes "x-ms-range") hs ≡ true → Holds (codes "x-ms-range") hs (Some (interval_text c.range)) → Holds (codes "x-ms-lease-id") hs (option_map id_text c.lease)
     → call_by_row row.ClearRange (Inside c.at) range_asks hs [] ≡ Ok (call.ClearRange c)
 unfolding call_by_row call_inside call_without_body bodiless_call inside_call plain_call directory_call file_call no_body clear_range is_word
-clear_range_call c hs h write there range lease = rw (below_read c.at h.0.1, word_read (codes "x-ms-write") (codes "clear") hs refl write,
-    interval_read OFFSET_LIMIT hs c.range h.1 (clears_at_most c.range h.1) there range, lease_read hs c.lease h.2 lease) refl
+clear_range_call c hs h write there range lease = rw (
+  below_read c.at h.0.1,
+  word_read (codes "x-ms-write") (codes "clear") hs refl write,
+  interval_read OFFSET_LIMIT hs c.range h.1 (clears_at_most c.range h.1) there range,
+  lease_read hs c.lease h.2 lease,
+) refl
 
 pub clear_range_back : (c : ClearRange) → IsWithinLimits (call.ClearRange c) → IsReadAs (call.ClearRange c) (request_of (spelled.clear_range c))
 unfolding spelled.clear_range
@@ -322,8 +326,14 @@ update_range_call : (c : UpdateRange) (hs : List Header) → IsWithinLimits (cal
 unfolding call_by_row call_inside update_range update_at update_with digest_of is_word
 update_range_call c hs h write there range digest lease =
     let p = update_parts c.update.from (length c.update.piece) h.1 in
-    rw (below_read c.at h.0.1, word_read (codes "x-ms-write") (codes "update") hs refl write,
-    interval_read PIECE_LIMIT hs (written_by c.update) p.0 p.1 there range, digest, lease_read hs c.lease h.2 lease, update_back c.update h.1) refl
+    rw (
+      below_read c.at h.0.1,
+      word_read (codes "x-ms-write") (codes "update") hs refl write,
+      interval_read PIECE_LIMIT hs (written_by c.update) p.0 p.1 there range,
+      digest,
+      lease_read hs c.lease h.2 lease,
+      update_back c.update h.1,
+    ) refl
 
 pub update_range_back : (c : UpdateRange) → IsWithinLimits (call.UpdateRange c) → IsReadAs (call.UpdateRange c) (request_of (spelled.update_range c))
 unfolding spelled.update_range

@@ -212,8 +212,12 @@ meta_front xs ys e =
     let inner = and_parts (list_all is_meta_pair (xs ++ ys)) (in_order None (xs ++ ys)) middle.0 in
     let all = and_parts (list_all is_meta_pair xs) (list_all is_meta_pair ys) (sym (list_all-append is_meta_pair xs ys) ∙ inner.0) in
     let count : length xs ≤ length (xs ++ ys) = omega (arith, length-append xs ys) in
-    rw (all.0, order_front None xs ys inner.1, less_still (length xs) (length (xs ++ ys)) MAX_META_NAMES count middle.1,
-    less_still (meta_length xs) (meta_length (xs ++ ys)) MAX_META_BYTES (length_front xs ys) outer.1) refl
+    rw (
+      all.0,
+      order_front None xs ys inner.1,
+      less_still (length xs) (length (xs ++ ys)) MAX_META_NAMES count middle.1,
+      less_still (meta_length xs) (meta_length (xs ++ ys)) MAX_META_BYTES (length_front xs ys) outer.1,
+    ) refl
 
 all_pairs : (ms : List MetaPair) → is_meta ms ≡ true → list_all is_meta_pair ms ≡ true
 unfolding is_meta
@@ -254,5 +258,5 @@ meta_back fs ms e is m =
     let f : filter is_meta_header (with_fields [] fs) ≡ map meta_header ms = filter_fields [] fs e ∙ ap (map meta_header) is in
     let sorted = sorted_all ms (ordered ms m) in
     let names : meta_header_names (with_fields [] fs) ≡ map full_name ms =
-        ap (λ (hs : List Header). put_in_order [] (map (λ (h : Header). h.name) hs)) f ∙ ap (put_in_order []) (names_are ms) ∙ put_sorted [] ms (nothing_behind ms) sorted in
+    ap (λ (hs : List Header). put_in_order [] (map (λ (h : Header). h.name) hs)) f ∙ ap (put_in_order []) (names_are ms) ∙ put_sorted [] ms (nothing_behind ms) sorted in
     rw names (pairs_back (with_fields [] fs) [] ms f m (nothing_behind ms) sorted)

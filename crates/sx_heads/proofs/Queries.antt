@@ -200,10 +200,25 @@ bare_from n a e s = record { no_and = from_test 38 n a; no_equals = from_test 61
 
 bare_names : (q : Query) → AreBareNames (asked_in q)
 unfolding percent_decode
-bare_names q = (bare_from (codes "restype") refl refl refl, (bare_from (codes "comp") refl refl refl,
-    (bare_from (codes "sharesnapshot") refl refl refl, (bare_from (codes "prefix") refl refl refl,
-    (bare_from (codes "marker") refl refl refl, (bare_from (codes "maxresults") refl refl refl,
-    (bare_from (codes "include") refl refl refl, tt)))))))
+bare_names q = (
+  bare_from (codes "restype") refl refl refl,
+  (
+    bare_from (codes "comp") refl refl refl,
+    (
+      bare_from (codes "sharesnapshot") refl refl refl,
+      (
+        bare_from (codes "prefix") refl refl refl,
+        (
+          bare_from (codes "marker") refl refl refl,
+          (
+            bare_from (codes "maxresults") refl refl refl,
+            (bare_from (codes "include") refl refl refl, tt),
+          ),
+        ),
+      ),
+    ),
+  ),
+)
 
 -- a target is cut where its query begins
 pub cut_back : (path : List ℕ) (q : Query) → LacksQuestion path → before_first is_question (path ++ query_text q) ≡ path

@@ -111,7 +111,6 @@ time_kept_back name Keep h = refl
 time_kept_back name Now h = refl
 time_kept_back name (At at) h = at_back name at h
 
-
 -- ---- ranges
 
 digits_any : (c : ℕ) (ds more : List ℕ) (p : ℕ → Bool) → p c ≡ true → list_any p (ds ++ c ∷ more) ≡ true
@@ -178,6 +177,7 @@ interval_back name most i e le =
   where
     less : (a b : ℕ) → nat_lt a b ≡ true → a < b
     less a b h = grind (arith, nat_tests, h)
+
     at_most : (a : ℕ) → nat_le a OFFSET_LIMIT ≡ true → a ≤ OFFSET_LIMIT
     at_most a h = grind (arith, nat_tests, h)
 

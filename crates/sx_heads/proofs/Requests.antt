@@ -91,10 +91,14 @@ asked_by q =
 asked_back : (q : Query) → AreTexts q → asked_of (params_of q) ≡ asked_by q
 unfolding asked_of snapshot_asked prefix_asked page_asked snapshots_asked
 asked_back q h = rw (
-    parameter_back (codes "restype") q refl refl h.restype, parameter_back (codes "comp") q refl refl h.comp,
-    parameter_back (codes "sharesnapshot") q refl refl h.snapshot, parameter_back (codes "prefix") q refl refl h.prefix,
-    parameter_back (codes "marker") q refl refl h.marker, parameter_back (codes "maxresults") q refl refl h.max,
-    parameter_back (codes "include") q refl refl h.include) refl
+  parameter_back (codes "restype") q refl refl h.restype,
+  parameter_back (codes "comp") q refl refl h.comp,
+  parameter_back (codes "sharesnapshot") q refl refl h.snapshot,
+  parameter_back (codes "prefix") q refl refl h.prefix,
+  parameter_back (codes "marker") q refl refl h.marker,
+  parameter_back (codes "maxresults") q refl refl h.max,
+  parameter_back (codes "include") q refl refl h.include,
+) refl
 
 -- a request is read as a call where its parts are
 pub reads_as : (s : Spelling) (a : Asked) (verb : Verb) (named : Row) (call : Call)
@@ -104,8 +108,15 @@ pub reads_as : (s : Spelling) (a : Asked) (verb : Verb) (named : Row) (call : Ca
     → reading (request_of s) ≡ Ok call
 unfolding reading request_of target_text
 reads_as s a verb named call v p t q h r c = rw (
-    v, version_back s.fields s.body h, cut_back (path_text s.at) s.query (path_lacks s.at), place_back s.at p,
-    parameters_back (path_text s.at) s.query (path_lacks s.at), asked_back s.query t, q, r) c
+  v,
+  version_back s.fields s.body h,
+  cut_back (path_text s.at) s.query (path_lacks s.at),
+  place_back s.at p,
+  parameters_back (path_text s.at) s.query (path_lacks s.at),
+  asked_back s.query t,
+  q,
+  r,
+) c
 
 -- what a query without a page asks
 abbrev pub plain_asked : Option (List ℕ) → Option (List ℕ) → Option ℕ → Asked

@@ -109,12 +109,12 @@ update_range c = record {
   at = Inside c.at;
   query = of_file (Some (codes "range")) None;
   fields = one (codes "x-ms-write") (Some (codes "update"))
-    ∷ range_field (Some (interval_text (record {
-      from = c.update.from;
-      end = c.update.from + length c.update.piece;
-    })))
-    ∷ lease_field c.lease
-    ∷ [];
+      ∷ range_field (Some (interval_text (record {
+        from = c.update.from;
+        end = c.update.from + length c.update.piece;
+      })))
+      ∷ lease_field c.lease
+      ∷ [];
   body = c.update.piece;
 }
 

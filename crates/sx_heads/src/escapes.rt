@@ -7,8 +7,13 @@ use percent_encoding::{AsciiSet, NON_ALPHANUMERIC, ascii_set, percent_encode};
 use std::alloc::{AllocError, Global};
 
 /// The ASCII bytes that are escaped: all but letters, digits, `-`, `_`, `.` and `~`.
-pub const PLAIN: AsciiSet =
-    ascii_set!(NON_ALPHANUMERIC.remove(b'-').remove(b'_').remove(b'.').remove(b'~'));
+pub const PLAIN: AsciiSet = ascii_set!(
+    NON_ALPHANUMERIC
+        .remove(b'-')
+        .remove(b'_')
+        .remove(b'.')
+        .remove(b'~')
+);
 
 /// A text, percent-encoded.
 pub(crate) fn escaped(alloc: Global, text: &[u8]) -> Result<String, AllocError>

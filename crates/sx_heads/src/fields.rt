@@ -9,9 +9,12 @@ ghost use Rattle.sx_heads.specs.FileSpellings.{range_field, content_fields};
 ghost use Rattle.sx_heads.specs.ShareSpellings.{action_fields, said_if};
 ghost use Rattle.sx_heads.specs.Spellings.{ending};
 ghost use Rattle.sx_names.specs.MetaPair.{is_meta_name};
-ghost use Rattle.sx_heads.specs.Values.{id_text, handle_text, handle_or_all, digest_text, bytes_text, time_text, attributes_text};
+ghost use Rattle.sx_heads.specs.Values.{id_text, handle_text, handle_or_all, digest_text};
+ghost use Rattle.sx_heads.specs.Values.{bytes_text, time_text, attributes_text};
 
-use crate::values::{attributes_text, bytes_text, decimal_text, handle_text, id_digits, moment_digits};
+use crate::values::{
+    attributes_text, bytes_text, decimal_text, handle_text, id_digits, moment_digits,
+};
 use http::Method;
 use std::alloc::Global;
 use sx_base::Items;
@@ -152,7 +155,8 @@ pub(crate) fn put_attributes(
     attributes: &Attributes,
 ) -> Result<(), NoMemory>
     ensures { OnOk result
-        (headers.new ≡ headers.old ++ headers_of (one (codes "x-ms-file-attributes") (Some (attributes_text attributes.now)))) }
+        (headers.new ≡ headers.old
+        ++ headers_of (one (codes "x-ms-file-attributes") (Some (attributes_text attributes.now)))) }
 {
     let value = attributes_text(alloc, attributes)?;
     put_text(alloc, headers, "x-ms-file-attributes", value)
@@ -165,7 +169,8 @@ pub(crate) fn put_attributes_if(
     attributes: &Option<FileAttributes>,
 ) -> Result<(), NoMemory>
     ensures { OnOk result
-        (headers.new ≡ headers.old ++ headers_of (one (codes "x-ms-file-attributes") (option_map attributes_text attributes.now))) }
+        (headers.new ≡ headers.old
+        ++ headers_of (one (codes "x-ms-file-attributes") (option_map attributes_text attributes.now))) }
 {
     match attributes {
         Some(attributes) => put_attributes(alloc, headers, &attributes.attributes()),
@@ -195,7 +200,8 @@ pub(crate) fn put_include(
     include: bool,
 ) -> Result<(), NoMemory>
     ensures { OnOk result
-        (headers.new ≡ headers.old ++ headers_of (one (codes "x-ms-delete-snapshots") (said_if include (codes "include")))) }
+        (headers.new ≡ headers.old
+        ++ headers_of (one (codes "x-ms-delete-snapshots") (said_if include (codes "include")))) }
 {
     if include {
         put(alloc, headers, "x-ms-delete-snapshots", b"include")
@@ -296,7 +302,12 @@ fn put_controls(
         ∷ one (codes "x-ms-content-md5") (option_map digest_text content.now.md5) ∷ [])) }
 {
     put_content_text(alloc, headers, "x-ms-cache-control", &content.cache_control)?;
-    put_content_text(alloc, headers, "x-ms-content-disposition", &content.disposition)?;
+    put_content_text(
+        alloc,
+        headers,
+        "x-ms-content-disposition",
+        &content.disposition,
+    )?;
     put_digest_if(alloc, headers, &content.md5)
 }
 
@@ -320,7 +331,8 @@ pub(crate) fn put_range(
     last: Option<u64>,
 ) -> Result<(), NoMemory>
     ensures { OnOk result
-        (headers.new ≡ headers.old ++ headers_of (range_field (Some (bytes_text (record { from = from; last = last }))))) }
+        (headers.new ≡ headers.old
+        ++ headers_of (range_field (Some (bytes_text (record { from = from; last = last }))))) }
 {
     let value = bytes_text(alloc, from, last)?;
     put_text(alloc, headers, "x-ms-range", value)
@@ -398,11 +410,7 @@ fn put_change(
     put_id(alloc, headers, "x-ms-proposed-lease-id", to)
 }
 
-fn put_release(
-    alloc: Global,
-    headers: &mut Items<Header>,
-    id: LeaseId,
-) -> Result<(), NoMemory>
+fn put_release(alloc: Global, headers: &mut Items<Header>, id: LeaseId) -> Result<(), NoMemory>
     ensures { OnOk result (headers.new ≡ with_fields headers.old (action_fields (Release id))) }
 {
     put(alloc, headers, "x-ms-lease-action", b"release")?;
@@ -434,8 +442,8 @@ pub(crate) fn request_with(
     body: Items<u8>,
 ) -> Result<Request, NoMemory>
     ensures { IfOk result (λ r. r ≡ record {
-        head = record { method = method; target = target; v11 = true; headers = with_fields headers (ending body) };
-        body = body;
+      head = record { method = method; target = target; v11 = true; headers = with_fields headers (ending body) };
+      body = body;
     }) }
 {
     let mut headers = headers;

@@ -25,7 +25,14 @@ pub(crate) fn get_file(alloc: Global, call: &GetFile) -> Result<Request, NoMemor
     ensures { IfOk result (λ r. r ≡ request_of (get_file call.now)) }
 {
     let at = call.at.target();
-    let target = target_text(alloc, &at.share, at.path.parts(), Restype::Absent, Comp::Absent, call.scope.snap)?;
+    let target = target_text(
+        alloc,
+        &at.share,
+        at.path.parts(),
+        Restype::Absent,
+        Comp::Absent,
+        call.scope.snap,
+    )?;
     let mut headers = Items::new(alloc);
     put_span(alloc, &mut headers, &call.span)?;
     put_id_if(alloc, &mut headers, "x-ms-lease-id", call.scope.lease)?;
@@ -34,11 +41,21 @@ pub(crate) fn get_file(alloc: Global, call: &GetFile) -> Result<Request, NoMemor
 
 /// Get File Properties.
 #[tactic(auto, unfolding(crate::specs::Spellings::request_of, crate::specs::Spellings::headers_spelled, crate::specs::FileSpellings::get_file_properties))]
-pub(crate) fn get_file_properties(alloc: Global, call: &GetFileProperties) -> Result<Request, NoMemory>
+pub(crate) fn get_file_properties(
+    alloc: Global,
+    call: &GetFileProperties,
+) -> Result<Request, NoMemory>
     ensures { IfOk result (λ r. r ≡ request_of (get_file_properties call.now)) }
 {
     let at = call.at.target();
-    let target = target_text(alloc, &at.share, at.path.parts(), Restype::Absent, Comp::Absent, call.scope.snap)?;
+    let target = target_text(
+        alloc,
+        &at.share,
+        at.path.parts(),
+        Restype::Absent,
+        Comp::Absent,
+        call.scope.snap,
+    )?;
     let mut headers = Items::new(alloc);
     put_id_if(alloc, &mut headers, "x-ms-lease-id", call.scope.lease)?;
     request_with(alloc, Method::HEAD, target, headers, Items::new(alloc))
@@ -50,7 +67,14 @@ pub(crate) fn get_file_metadata(alloc: Global, call: &GetFileMetadata) -> Result
     ensures { IfOk result (λ r. r ≡ request_of (get_file_metadata call.now)) }
 {
     let at = call.at.target();
-    let target = target_text(alloc, &at.share, at.path.parts(), Restype::Absent, Comp::Metadata, call.scope.snap)?;
+    let target = target_text(
+        alloc,
+        &at.share,
+        at.path.parts(),
+        Restype::Absent,
+        Comp::Metadata,
+        call.scope.snap,
+    )?;
     let mut headers = Items::new(alloc);
     put_id_if(alloc, &mut headers, "x-ms-lease-id", call.scope.lease)?;
     request_with(alloc, Method::GET, target, headers, Items::new(alloc))
@@ -62,7 +86,14 @@ pub(crate) fn set_file_metadata(alloc: Global, call: &SetFileMetadata) -> Result
     ensures { IfOk result (λ r. r ≡ request_of (set_file_metadata call.now)) }
 {
     let at = call.at.target();
-    let target = target_text(alloc, &at.share, at.path.parts(), Restype::Absent, Comp::Metadata, None)?;
+    let target = target_text(
+        alloc,
+        &at.share,
+        at.path.parts(),
+        Restype::Absent,
+        Comp::Metadata,
+        None,
+    )?;
     let mut headers = Items::new(alloc);
     put_metas(alloc, &mut headers, call.meta.pairs())?;
     put_id_if(alloc, &mut headers, "x-ms-lease-id", call.lease)?;
@@ -75,10 +106,22 @@ pub(crate) fn update_range(alloc: Global, call: &UpdateRange) -> Result<Request,
     ensures { IfOk result (λ r. r ≡ request_of (update_range call.now)) }
 {
     let at = call.at.target();
-    let target = target_text(alloc, &at.share, at.path.parts(), Restype::Absent, Comp::Range, None)?;
+    let target = target_text(
+        alloc,
+        &at.share,
+        at.path.parts(),
+        Restype::Absent,
+        Comp::Range,
+        None,
+    )?;
     let mut headers = Items::new(alloc);
     put(alloc, &mut headers, "x-ms-write", b"update")?;
-    put_range(alloc, &mut headers, call.update.from, Some(call.update.end() - 1))?;
+    put_range(
+        alloc,
+        &mut headers,
+        call.update.from,
+        Some(call.update.end() - 1),
+    )?;
     put_id_if(alloc, &mut headers, "x-ms-lease-id", call.lease)?;
     let body = Items::copy_of(alloc, call.update.piece.bytes())?;
     request_with(alloc, Method::PUT, target, headers, body)
@@ -90,10 +133,22 @@ pub(crate) fn clear_range(alloc: Global, call: &ClearRange) -> Result<Request, N
     ensures { IfOk result (λ r. r ≡ request_of (clear_range call.now)) }
 {
     let at = call.at.target();
-    let target = target_text(alloc, &at.share, at.path.parts(), Restype::Absent, Comp::Range, None)?;
+    let target = target_text(
+        alloc,
+        &at.share,
+        at.path.parts(),
+        Restype::Absent,
+        Comp::Range,
+        None,
+    )?;
     let mut headers = Items::new(alloc);
     put(alloc, &mut headers, "x-ms-write", b"clear")?;
-    put_range(alloc, &mut headers, call.range.from, Some(call.range.end - 1))?;
+    put_range(
+        alloc,
+        &mut headers,
+        call.range.from,
+        Some(call.range.end - 1),
+    )?;
     put_id_if(alloc, &mut headers, "x-ms-lease-id", call.lease)?;
     request_with(alloc, Method::PUT, target, headers, Items::new(alloc))
 }
@@ -104,7 +159,14 @@ pub(crate) fn list_ranges(alloc: Global, call: &ListRanges) -> Result<Request, N
     ensures { IfOk result (λ r. r ≡ request_of (list_ranges call.now)) }
 {
     let at = call.at.target();
-    let target = target_text(alloc, &at.share, at.path.parts(), Restype::Absent, Comp::RangeList, call.scope.snap)?;
+    let target = target_text(
+        alloc,
+        &at.share,
+        at.path.parts(),
+        Restype::Absent,
+        Comp::RangeList,
+        call.scope.snap,
+    )?;
     let mut headers = Items::new(alloc);
     put_span(alloc, &mut headers, &call.span)?;
     put_id_if(alloc, &mut headers, "x-ms-lease-id", call.scope.lease)?;
@@ -117,7 +179,14 @@ pub(crate) fn delete_file(alloc: Global, call: &DeleteFile) -> Result<Request, N
     ensures { IfOk result (λ r. r ≡ request_of (delete_file call.now)) }
 {
     let at = call.at.target();
-    let target = target_text(alloc, &at.share, at.path.parts(), Restype::Absent, Comp::Absent, None)?;
+    let target = target_text(
+        alloc,
+        &at.share,
+        at.path.parts(),
+        Restype::Absent,
+        Comp::Absent,
+        None,
+    )?;
     let mut headers = Items::new(alloc);
     put_id_if(alloc, &mut headers, "x-ms-lease-id", call.lease)?;
     request_with(alloc, Method::DELETE, target, headers, Items::new(alloc))
@@ -129,7 +198,14 @@ pub(crate) fn lease_file(alloc: Global, call: &LeaseFile) -> Result<Request, NoM
     ensures { IfOk result (λ r. r ≡ request_of (lease_file call.now)) }
 {
     let at = call.at.target();
-    let target = target_text(alloc, &at.share, at.path.parts(), Restype::Absent, Comp::Lease, None)?;
+    let target = target_text(
+        alloc,
+        &at.share,
+        at.path.parts(),
+        Restype::Absent,
+        Comp::Lease,
+        None,
+    )?;
     let mut headers = Items::new(alloc);
     put_action(alloc, &mut headers, &call.action)?;
     request_with(alloc, Method::PUT, target, headers, Items::new(alloc))

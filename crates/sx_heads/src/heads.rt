@@ -26,11 +26,14 @@ use sx_http::Request;
 use sx_memory::NoMemory;
 
 #[tactic(auto, unfolding(crate::specs::Heads::spelling_of))]
-fn share_head(alloc: Global, call: &Call) -> Result<Request, NoMemory>
+fn rest_head(alloc: Global, call: &Call) -> Result<Request, NoMemory>
     requires { door_of call.now ≡ Door.Rest }
     ensures { IfOk result (λ r. r ≡ head_of call.now) }
 {
     match call {
+        Call::ListShares(call) => list_shares(alloc, call),
+        Call::ListDirectory(call) => list_directory(alloc, call),
+        Call::ListHandles(call) => list_handles(alloc, call),
         Call::CreateShare(call) => create_share(alloc, call),
         Call::GetShareProperties(call) => get_share_properties(alloc, call),
         Call::SetShareProperties(call) => set_share_properties(alloc, call),
@@ -40,35 +43,14 @@ fn share_head(alloc: Global, call: &Call) -> Result<Request, NoMemory>
         Call::DeleteSnapshot(call) => delete_snapshot(alloc, call),
         Call::SnapshotShare(call) => snapshot_share(alloc, call),
         Call::LeaseShare(call) => lease_share(alloc, call),
-        _ => directory_head(alloc, call),
-    }
-}
-
-#[tactic(auto, unfolding(crate::specs::Heads::spelling_of))]
-fn directory_head(alloc: Global, call: &Call) -> Result<Request, NoMemory>
-    requires { door_of call.now ≡ Door.Rest }
-    ensures { IfOk result (λ r. r ≡ head_of call.now) }
-{
-    match call {
-        Call::ListShares(call) => list_shares(alloc, call),
-        Call::ListDirectory(call) => list_directory(alloc, call),
-        Call::ListHandles(call) => list_handles(alloc, call),
         Call::CreateDirectory(call) => create_directory(alloc, call),
         Call::GetDirectoryProperties(call) => get_directory_properties(alloc, call),
         Call::GetDirectoryMetadata(call) => get_directory_metadata(alloc, call),
         Call::SetDirectoryMetadata(call) => set_directory_metadata(alloc, call),
         Call::DeleteDirectory(call) => delete_directory(alloc, call),
         Call::ForceCloseHandles(call) => force_close_handles(alloc, call),
-        _ => file_head(alloc, call),
-    }
-}
-
-#[tactic(auto, unfolding(crate::specs::Heads::spelling_of))]
-fn file_head(alloc: Global, call: &Call) -> Result<Request, NoMemory>
-    requires { door_of call.now ≡ Door.Rest }
-    ensures { IfOk result (λ r. r ≡ head_of call.now) }
-{
-    match call {
+        Call::CreateFile(call) => create_file(alloc, call),
+        Call::SetFileProperties(call) => set_file_properties(alloc, call),
         Call::GetFile(call) => get_file(alloc, call),
         Call::GetFileProperties(call) => get_file_properties(alloc, call),
         Call::GetFileMetadata(call) => get_file_metadata(alloc, call),
@@ -78,8 +60,6 @@ fn file_head(alloc: Global, call: &Call) -> Result<Request, NoMemory>
         Call::ListRanges(call) => list_ranges(alloc, call),
         Call::DeleteFile(call) => delete_file(alloc, call),
         Call::LeaseFile(call) => lease_file(alloc, call),
-        Call::CreateFile(call) => create_file(alloc, call),
-        Call::SetFileProperties(call) => set_file_properties(alloc, call),
         _ => unreachable!(),
     }
 }
@@ -93,5 +73,5 @@ pub fn head_of(alloc: Global, call: &Call) -> Result<Request, NoMemory>
     ensures read { IfOk result (λ r. IsReadAs call.now r) }
 {
     calls_are_read_back(call);
-    share_head(alloc, call)
+    rest_head(alloc, call)
 }

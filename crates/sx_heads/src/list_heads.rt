@@ -86,8 +86,7 @@ fn shares_query(alloc: Global, call: &ListShares) -> Result<Text, NoMemory>
     Ok(query)
 }
 
-#[tactic(auto, unfolding(crate::specs::Spellings::target_text, crate::specs::Targets::path_text,
-    crate::specs::ShareSpellings::list_shares))]
+#[tactic(auto, unfolding(crate::specs::Spellings::target_text, crate::specs::Targets::path_text, crate::specs::ShareSpellings::list_shares))]
 fn shares_target(alloc: Global, call: &ListShares) -> Result<Text, NoMemory>
     ensures { IfOk result (λ t. t ≡ target_text (list_shares call.now).at (list_shares call.now).query) }
 {
@@ -98,8 +97,7 @@ fn shares_target(alloc: Global, call: &ListShares) -> Result<Text, NoMemory>
 }
 
 /// List Shares.
-#[tactic(auto, unfolding(crate::specs::Spellings::request_of, crate::specs::Spellings::headers_spelled,
-    crate::specs::ShareSpellings::list_shares))]
+#[tactic(auto, unfolding(crate::specs::Spellings::request_of, crate::specs::Spellings::headers_spelled, crate::specs::ShareSpellings::list_shares))]
 pub(crate) fn list_shares(alloc: Global, call: &ListShares) -> Result<Request, NoMemory>
     ensures { IfOk result (λ r. r ≡ request_of (list_shares call.now)) }
 {
@@ -137,8 +135,7 @@ fn names_target(alloc: Global, call: &ListDirectory) -> Result<Text, NoMemory>
 }
 
 /// List Directories and Files.
-#[tactic(auto, unfolding(crate::specs::Spellings::request_of, crate::specs::Spellings::headers_spelled,
-    crate::specs::DirectorySpellings::list_directory))]
+#[tactic(auto, unfolding(crate::specs::Spellings::request_of, crate::specs::Spellings::headers_spelled, crate::specs::DirectorySpellings::list_directory))]
 pub(crate) fn list_directory(alloc: Global, call: &ListDirectory) -> Result<Request, NoMemory>
     ensures { IfOk result (λ r. r ≡ request_of (list_directory call.now)) }
 {
@@ -186,13 +183,17 @@ fn handles_target(alloc: Global, call: &ListHandles) -> Result<Text, NoMemory>
 }
 
 /// List Handles.
-#[tactic(auto, unfolding(crate::specs::Spellings::request_of, crate::specs::Spellings::headers_spelled,
-    crate::specs::DirectorySpellings::list_handles))]
+#[tactic(auto, unfolding(crate::specs::Spellings::request_of, crate::specs::Spellings::headers_spelled, crate::specs::DirectorySpellings::list_handles))]
 pub(crate) fn list_handles(alloc: Global, call: &ListHandles) -> Result<Request, NoMemory>
     ensures { IfOk result (λ r. r ≡ request_of (list_handles call.now)) }
 {
     let target = handles_target(alloc, call)?;
     let mut headers = Items::new(alloc);
-    put(alloc, &mut headers, "x-ms-recursive", bool_text(call.recursive))?;
+    put(
+        alloc,
+        &mut headers,
+        "x-ms-recursive",
+        bool_text(call.recursive),
+    )?;
     request_with(alloc, Method::GET, target, headers, Items::new(alloc))
 }

@@ -39,10 +39,22 @@ pub(crate) fn create_file(alloc: Global, call: &CreateFile) -> Result<Request, N
     ensures { IfOk result (λ r. r ≡ request_of (create_file call.now)) }
 {
     let at = call.at.target();
-    let target = target_text(alloc, &at.share, at.path.parts(), Restype::Absent, Comp::Absent, None)?;
+    let target = target_text(
+        alloc,
+        &at.share,
+        at.path.parts(),
+        Restype::Absent,
+        Comp::Absent,
+        None,
+    )?;
     let mut headers = Items::new(alloc);
     put(alloc, &mut headers, "x-ms-type", b"file")?;
-    put_number(alloc, &mut headers, "x-ms-content-length", call.length.bytes())?;
+    put_number(
+        alloc,
+        &mut headers,
+        "x-ms-content-length",
+        call.length.bytes(),
+    )?;
     put_content(alloc, &mut headers, &call.content)?;
     put_new_facts(alloc, &mut headers, call)?;
     request_with(alloc, Method::PUT, target, headers, Items::new(alloc))
@@ -71,7 +83,14 @@ pub(crate) fn set_file_properties(
     ensures { IfOk result (λ r. r ≡ request_of (set_file_properties call.now)) }
 {
     let at = call.at.target();
-    let target = target_text(alloc, &at.share, at.path.parts(), Restype::Absent, Comp::Properties, None)?;
+    let target = target_text(
+        alloc,
+        &at.share,
+        at.path.parts(),
+        Restype::Absent,
+        Comp::Properties,
+        None,
+    )?;
     let mut headers = Items::new(alloc);
     put_length_if(alloc, &mut headers, call.length)?;
     put_content(alloc, &mut headers, &call.content)?;

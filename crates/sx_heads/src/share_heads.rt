@@ -2,7 +2,8 @@
 
 ghost use Rattle.std.specs.Prelude.{◌≡◌, IfOk};
 ghost use Rattle.sx_heads.specs.Spellings.{request_of};
-ghost use Rattle.sx_heads.specs.ShareSpellings.{create_share, get_share_properties, set_share_properties, get_share_metadata};
+ghost use Rattle.sx_heads.specs.ShareSpellings.{create_share, get_share_properties, set_share_properties};
+ghost use Rattle.sx_heads.specs.ShareSpellings.{get_share_metadata};
 ghost use Rattle.sx_heads.specs.ShareSpellings.{set_share_metadata, delete_share, delete_snapshot, snapshot_share};
 ghost use Rattle.sx_heads.specs.ShareSpellings.{lease_share};
 
@@ -26,17 +27,32 @@ pub(crate) fn create_share(alloc: Global, call: &CreateShare) -> Result<Request,
 {
     let target = target_text(alloc, &call.share, &[], Restype::Share, Comp::Absent, None)?;
     let mut headers = Items::new(alloc);
-    put_number(alloc, &mut headers, "x-ms-share-quota", u64::from(call.quota.gib()))?;
+    put_number(
+        alloc,
+        &mut headers,
+        "x-ms-share-quota",
+        u64::from(call.quota.gib()),
+    )?;
     put_metas(alloc, &mut headers, call.meta.pairs())?;
     request_with(alloc, Method::PUT, target, headers, Items::new(alloc))
 }
 
 /// Get Share Properties.
 #[tactic(auto, unfolding(crate::specs::Spellings::request_of, crate::specs::Spellings::headers_spelled, crate::specs::ShareSpellings::get_share_properties))]
-pub(crate) fn get_share_properties(alloc: Global, call: &GetShareProperties) -> Result<Request, NoMemory>
+pub(crate) fn get_share_properties(
+    alloc: Global,
+    call: &GetShareProperties,
+) -> Result<Request, NoMemory>
     ensures { IfOk result (λ r. r ≡ request_of (get_share_properties call.now)) }
 {
-    let target = target_text(alloc, &call.share, &[], Restype::Share, Comp::Absent, call.scope.snap)?;
+    let target = target_text(
+        alloc,
+        &call.share,
+        &[],
+        Restype::Share,
+        Comp::Absent,
+        call.scope.snap,
+    )?;
     let mut headers = Items::new(alloc);
     put_id_if(alloc, &mut headers, "x-ms-lease-id", call.scope.lease)?;
     request_with(alloc, Method::GET, target, headers, Items::new(alloc))
@@ -44,22 +60,47 @@ pub(crate) fn get_share_properties(alloc: Global, call: &GetShareProperties) -> 
 
 /// Set Share Properties.
 #[tactic(auto, unfolding(crate::specs::Spellings::request_of, crate::specs::Spellings::headers_spelled, crate::specs::ShareSpellings::set_share_properties))]
-pub(crate) fn set_share_properties(alloc: Global, call: &SetShareProperties) -> Result<Request, NoMemory>
+pub(crate) fn set_share_properties(
+    alloc: Global,
+    call: &SetShareProperties,
+) -> Result<Request, NoMemory>
     ensures { IfOk result (λ r. r ≡ request_of (set_share_properties call.now)) }
 {
-    let target = target_text(alloc, &call.share, &[], Restype::Share, Comp::Properties, None)?;
+    let target = target_text(
+        alloc,
+        &call.share,
+        &[],
+        Restype::Share,
+        Comp::Properties,
+        None,
+    )?;
     let mut headers = Items::new(alloc);
-    put_number(alloc, &mut headers, "x-ms-share-quota", u64::from(call.quota.gib()))?;
+    put_number(
+        alloc,
+        &mut headers,
+        "x-ms-share-quota",
+        u64::from(call.quota.gib()),
+    )?;
     put_id_if(alloc, &mut headers, "x-ms-lease-id", call.lease)?;
     request_with(alloc, Method::PUT, target, headers, Items::new(alloc))
 }
 
 /// Get Share Metadata.
 #[tactic(auto, unfolding(crate::specs::Spellings::request_of, crate::specs::Spellings::headers_spelled, crate::specs::ShareSpellings::get_share_metadata))]
-pub(crate) fn get_share_metadata(alloc: Global, call: &GetShareMetadata) -> Result<Request, NoMemory>
+pub(crate) fn get_share_metadata(
+    alloc: Global,
+    call: &GetShareMetadata,
+) -> Result<Request, NoMemory>
     ensures { IfOk result (λ r. r ≡ request_of (get_share_metadata call.now)) }
 {
-    let target = target_text(alloc, &call.share, &[], Restype::Share, Comp::Metadata, call.scope.snap)?;
+    let target = target_text(
+        alloc,
+        &call.share,
+        &[],
+        Restype::Share,
+        Comp::Metadata,
+        call.scope.snap,
+    )?;
     let mut headers = Items::new(alloc);
     put_id_if(alloc, &mut headers, "x-ms-lease-id", call.scope.lease)?;
     request_with(alloc, Method::GET, target, headers, Items::new(alloc))
@@ -67,10 +108,20 @@ pub(crate) fn get_share_metadata(alloc: Global, call: &GetShareMetadata) -> Resu
 
 /// Set Share Metadata.
 #[tactic(auto, unfolding(crate::specs::Spellings::request_of, crate::specs::Spellings::headers_spelled, crate::specs::ShareSpellings::set_share_metadata))]
-pub(crate) fn set_share_metadata(alloc: Global, call: &SetShareMetadata) -> Result<Request, NoMemory>
+pub(crate) fn set_share_metadata(
+    alloc: Global,
+    call: &SetShareMetadata,
+) -> Result<Request, NoMemory>
     ensures { IfOk result (λ r. r ≡ request_of (set_share_metadata call.now)) }
 {
-    let target = target_text(alloc, &call.share, &[], Restype::Share, Comp::Metadata, None)?;
+    let target = target_text(
+        alloc,
+        &call.share,
+        &[],
+        Restype::Share,
+        Comp::Metadata,
+        None,
+    )?;
     let mut headers = Items::new(alloc);
     put_metas(alloc, &mut headers, call.meta.pairs())?;
     put_id_if(alloc, &mut headers, "x-ms-lease-id", call.lease)?;
@@ -94,7 +145,14 @@ pub(crate) fn delete_share(alloc: Global, call: &DeleteShare) -> Result<Request,
 pub(crate) fn delete_snapshot(alloc: Global, call: &DeleteSnapshot) -> Result<Request, NoMemory>
     ensures { IfOk result (λ r. r ≡ request_of (delete_snapshot call.now)) }
 {
-    let target = target_text(alloc, &call.share, &[], Restype::Share, Comp::Absent, Some(call.moment))?;
+    let target = target_text(
+        alloc,
+        &call.share,
+        &[],
+        Restype::Share,
+        Comp::Absent,
+        Some(call.moment),
+    )?;
     let headers = Items::new(alloc);
     request_with(alloc, Method::DELETE, target, headers, Items::new(alloc))
 }
@@ -104,7 +162,14 @@ pub(crate) fn delete_snapshot(alloc: Global, call: &DeleteSnapshot) -> Result<Re
 pub(crate) fn snapshot_share(alloc: Global, call: &SnapshotShare) -> Result<Request, NoMemory>
     ensures { IfOk result (λ r. r ≡ request_of (snapshot_share call.now)) }
 {
-    let target = target_text(alloc, &call.share, &[], Restype::Share, Comp::Snapshot, None)?;
+    let target = target_text(
+        alloc,
+        &call.share,
+        &[],
+        Restype::Share,
+        Comp::Snapshot,
+        None,
+    )?;
     let mut headers = Items::new(alloc);
     put_metas(alloc, &mut headers, call.meta.pairs())?;
     request_with(alloc, Method::PUT, target, headers, Items::new(alloc))

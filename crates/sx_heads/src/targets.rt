@@ -95,8 +95,13 @@ pub(crate) fn ask_comp(alloc: Global, query: &mut Text, comp: Comp) -> Result<()
 }
 
 /// Adds the moment of a snapshot, where one is named.
-pub(crate) fn ask_snapshot(alloc: Global, query: &mut Text, moment: Option<Moment>) -> Result<(), NoMemory>
-    ensures { OnOk result (query.new ≡ with_parameter query.old (codes "sharesnapshot") (option_map moment_text moment)) }
+pub(crate) fn ask_snapshot(
+    alloc: Global,
+    query: &mut Text,
+    moment: Option<Moment>,
+) -> Result<(), NoMemory>
+    ensures { OnOk result
+        (query.new ≡ with_parameter query.old (codes "sharesnapshot") (option_map moment_text moment)) }
 {
     match moment {
         Some(moment) => ask(alloc, query, "sharesnapshot", &moment_digits(moment)),

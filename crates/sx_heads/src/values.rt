@@ -28,7 +28,10 @@ pub(crate) fn moment_digits(moment: Moment) -> [u8; 28]
 pub(crate) fn id_digits(id: LeaseId, buffer: &mut [u8; 36]) -> &[u8]
     ensures { result.now ≡ id_text id }
 {
-    Uuid::from_u128(id.0).hyphenated().encode_lower(buffer).as_bytes()
+    Uuid::from_u128(id.0)
+        .hyphenated()
+        .encode_lower(buffer)
+        .as_bytes()
 }
 
 /// A number in decimal digits.
