@@ -15,3 +15,4 @@ pub mod FileRequests
 pub mod ReadBack
 pub mod SpelledWords
 pub mod MetaHeaders
+pub mod CloseRequests

@@ -21,9 +21,9 @@ use Rattle.sx_heads.specs.ShareSpellings.{bodiless}
 abbrev pub of_directory : Option (List ℕ) → Option ℕ → Query
 of_directory comp snap = asks (Some (codes "directory")) comp (option_map moment_text snap)
 
--- what is asked of a handle's file or directory
-abbrev pub of_handles : List ℕ → Query
-of_handles comp = asks None (Some comp) None
+-- what is asked of a file or directory, whichever it is
+abbrev pub of_path : Option (List ℕ) → Option ℕ → Query
+of_path comp snap = asks None comp (option_map moment_text snap)
 
 -- x-ms-file-creation-time, where it is given
 abbrev pub created_field : Option (List ℕ) → Field
@@ -70,14 +70,18 @@ list_directory c =
 -- List Handles
 unfoldable pub list_handles : ListHandles → Spelling
 list_handles c =
-    bodiless (codes "GET") (Inside c.at) (with_page (of_handles (codes "listhandles")) None
+    bodiless (codes "GET") (Inside c.at) (with_page (of_path (Some (codes "listhandles")) None) None
     (option_map handle_text c.marker) (decimal c.max) None) (
     one (codes "x-ms-recursive") (Some (bool_text c.recursive)) ∷ [])
+
+-- the handle that is closed, and whether those below are
+abbrev pub close_fields : ForceCloseHandles → List Field
+close_fields c =
+    one (codes "x-ms-handle-id") (Some (handle_or_all c.handle))
+    ∷ one (codes "x-ms-recursive") (Some (bool_text c.recursive))
+    ∷ []
 
 -- Force Close Handles
 unfoldable pub force_close_handles : ForceCloseHandles → Spelling
 force_close_handles c =
-    bodiless (codes "PUT") (Inside c.at) (of_handles (codes "forceclosehandles")) (
-    one (codes "x-ms-handle-id") (Some (handle_or_all c.handle))
-    ∷ one (codes "x-ms-recursive") (Some (bool_text c.recursive))
-    ∷ [])
+    bodiless (codes "PUT") (Inside c.at) (of_path (Some (codes "forceclosehandles")) None) (close_fields c)

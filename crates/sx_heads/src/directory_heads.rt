@@ -1,7 +1,8 @@
 //! The calls on directories and on handles that list nothing.
 
 ghost use Rattle.std.specs.Prelude.{◌≡◌, ◌++◌, IfOk, OnOk, Some, codes};
-ghost use Rattle.sx_heads.specs.Fields.{headers_of, one};
+ghost use Rattle.sx_heads.specs.DirectorySpellings.{close_fields};
+ghost use Rattle.sx_heads.specs.Fields.{headers_of, one, with_fields};
 ghost use Rattle.sx_heads.specs.Values.{bool_text};
 ghost use Rattle.sx_heads.specs.Spellings.{request_of};
 ghost use Rattle.sx_heads.specs.DirectorySpellings.{create_directory, get_directory_properties};
@@ -140,6 +141,18 @@ fn put_recursive(
     put(alloc, headers, "x-ms-recursive", bool_text(recursive))
 }
 
+/// The handle that is closed, and whether those below are.
+fn put_close(
+    alloc: Global,
+    headers: &mut Items<Header>,
+    call: &ForceCloseHandles,
+) -> Result<(), NoMemory>
+    ensures { OnOk result (headers.new ≡ with_fields headers.old (close_fields call.now)) }
+{
+    put_handle(alloc, headers, call.handle)?;
+    put_recursive(alloc, headers, call.recursive)
+}
+
 /// Force Close Handles.
 #[tactic(auto, unfolding(crate::specs::Spellings::request_of, crate::specs::Spellings::headers_spelled, crate::specs::DirectorySpellings::force_close_handles))]
 pub(crate) fn force_close_handles(
@@ -157,7 +170,6 @@ pub(crate) fn force_close_handles(
         None,
     )?;
     let mut headers = Items::new(alloc);
-    put_handle(alloc, &mut headers, call.handle)?;
-    put_recursive(alloc, &mut headers, call.recursive)?;
+    put_close(alloc, &mut headers, call)?;
     request_with(alloc, Method::PUT, target, headers, Items::new(alloc))
 }
