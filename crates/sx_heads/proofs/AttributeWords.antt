@@ -1,18 +1,15 @@
 -- The words of attributes are read back.
-use Rattle.std.proofs.Common.{◌≡◌, ◌≤◌, ℕ, suc, ◌+◌, ◌==◌, nat_le, Bool, true, false, cond, not, ◌&&◌, ◌||◌, List, [], ◌∷◌, ◌++◌, length, codes, map}
-use Rattle.std.proofs.Common.{Option, Some, None, Ok, arith, refl, sym, ap, subst, ◌∙◌, append-nil, IfSome}
-use Rattle.std.specs.Prelude.{All, if◌then◌else◌}
+use Rattle.std.proofs.Common.{◌≡◌, ◌≤◌, ℕ, suc, ◌==◌, Bool, true, false, cond, not, ◌&&◌, ◌||◌, List, [], ◌∷◌, ◌++◌, codes}
+use Rattle.std.proofs.Common.{Option, Some, None, Ok, arith, refl, sym, ap, ◌∙◌, append-nil, IfSome}
+use Rattle.std.specs.Prelude.{All}
 use Rattle.std.specs.List.{slice_split, flat_map, list_all, list_any, count_by}
 use Rattle.std.specs.Option.{option_map}
 use Rattle.std.proofs.lemmas.Bool.{false≢true, and_parts}
-use Rattle.std.proofs.lemmas.Bool.Decides.{nat_tests}
-use Rattle.std.proofs.lemmas.List.Elements.{All-nil, All-cons}
 use Rattle.std.proofs.lemmas.List.Sums.{sum_by-cons}
 use Rattle.std.proofs.lemmas.List.Splits.{slice_split_none, slice_split_at}
 use Rattle.sx_names.specs.declared.attributes.Attributes.{Attributes}
-use Rattle.sx_decode.specs.Reading.{Reading, with_next}
 use Rattle.sx_decode.specs.Words.{is_word, is_word_in_blanks}
-use Rattle.sx_decode.specs.Facts.{is_bar, names, is_former_attribute, is_latter_attribute, is_attribute, stands, is_once, are_once, attributes_named, attributes_in, attributes_read, attributes_or_new, attributes_or_kept}
+use Rattle.sx_decode.specs.Facts.{is_bar, names, is_former_attribute, is_latter_attribute, is_attribute, stands, is_once, are_once, attributes_named, attributes_in, attributes_read, attributes_or_kept}
 use Rattle.sx_heads.specs.Values.{words_said, attribute_flags, words_text, attributes_text}
 use Rattle.sx_heads.proofs.Queries.{from_test}
 

@@ -1,7 +1,5 @@
 -- The request of Force Close Handles, from its parts.
-use Rattle.std.proofs.Common.{◌≡◌, ℕ, List, [], codes, true, Some, None, IfOk, Result, Bool}
-use Rattle.std.specs.Option.{option_map}
-use Rattle.sx_base.specs.Moment.{moment_text}
+use Rattle.std.proofs.Common.{◌≡◌, ℕ, List, [], codes, true, Some, None, IfOk, Result}
 use Rattle.sx_http.specs.declared.heads.Header.{Header}
 use Rattle.sx_http.specs.declared.heads.Request.{Request}
 use Rattle.sx_call.specs.declared.directory_calls.ForceCloseHandles.{ForceCloseHandles}

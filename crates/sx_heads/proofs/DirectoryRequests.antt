@@ -1,9 +1,8 @@
 -- The calls on directories and on handles are read back.
-use Rattle.std.proofs.Common.{◌≡◌, ℕ, ◌==◌, Bool, true, false, is_some, List, [], ◌∷◌, ◌++◌, length, codes, decimal, Option, Some, None, Ok, refl, sym, ap, ◌∙◌, append-nil}
+use Rattle.std.proofs.Common.{◌≡◌, ◌==◌, Bool, true, false, List, [], length, codes, Option, Some, None, Ok, refl, append-nil}
 use Rattle.std.specs.Prelude.{IfSome}
 use Rattle.std.specs.Option.{option_map}
-use Rattle.sx_base.specs.Moment.{moment_text, IsWritten}
-use Rattle.sx_http.specs.Lookup.{has_header, header_values}
+use Rattle.sx_base.specs.Moment.{moment_text}
 use Rattle.sx_http.specs.declared.heads.Header.{Header}
 use Rattle.sx_call.specs.CallLimits.{IsWithinLimits}
 use Rattle.sx_call.specs.Targets.{is_below_root}
@@ -18,12 +17,12 @@ use Rattle.sx_call.specs.declared.directory_calls.ListHandles.{ListHandles}
 use Rattle.sx_call.specs.declared.directory_calls.ForceCloseHandles.{ForceCloseHandles}
 use Rattle.sx_decode.specs.declared.forms.Row.TheVariants as row
 use Rattle.sx_decode.specs.declared.forms.Verb.TheVariants as verb
-use Rattle.sx_decode.specs.declared.targets.Place.TheVariants.{Account, Inside}
+use Rattle.sx_decode.specs.declared.targets.Place.TheVariants.{Inside}
 use Rattle.sx_decode.specs.Bodies.{no_body}
 use Rattle.sx_decode.specs.Words.{is_word}
 use Rattle.sx_decode.specs.Table.{fits, row_of}
 use Rattle.sx_decode.specs.Metadata.{meta_of}
-use Rattle.sx_decode.specs.Spelling.{verb_of, shape_of, restype_of, comp_of, comp_named, is_clear, key_of, row_for, account_call, call_by_row, call_inside, call_without_body, bodiless_call, inside_call}
+use Rattle.sx_decode.specs.Spelling.{shape_of, restype_of, comp_of, comp_named, is_clear, key_of, row_for, call_by_row, call_inside, call_without_body, bodiless_call, inside_call}
 use Rattle.sx_decode.specs.ShareRows.{plain_call}
 use Rattle.sx_decode.specs.DirectoryRows.{directory_call}
 use Rattle.sx_decode.specs.FileRows.{file_call}
@@ -31,20 +30,17 @@ use Rattle.sx_decode.specs.DirectoryRows.{create_directory, set_directory_metada
 use Rattle.sx_heads.specs.DirectorySpellings as spelled
 use Rattle.sx_heads.specs.Heads.{IsReadAs}
 use Rattle.sx_heads.specs.Spellings.{headers_spelled, request_of}
-use Rattle.sx_heads.specs.Values.{id_text, attributes_text, bytes_text, interval_text, time_text, bool_text, handle_or_all}
-use Rattle.sx_heads.proofs.Requests.{field_is, has_field, values_of_field, meta_is, reads_as, reads_plain, plain_asked}
+use Rattle.sx_heads.specs.Values.{attributes_text, bool_text, handle_or_all}
+use Rattle.sx_heads.proofs.Requests.{field_is, meta_is, reads_as, reads_plain, plain_asked}
 use Rattle.sx_heads.proofs.PlainTexts.{plain_utf8}
-use Rattle.sx_heads.specs.Digests.{IsReadDigest}
-use Rattle.sx_heads.proofs.FieldReads.{Holds, new_quota_read, set_quota_read, include_read, lease_read, scope_read, below_read, new_attributes_read, set_attributes_read, new_time_read, set_time_read, new_length_read, set_length_read, word_read, recursive_read, handle_read, HoldsContent, content_read, span_read, interval_read, action_back}
-use Rattle.sx_heads.proofs.RowTables.{verb_is_get, verb_is_put, verb_is_head, verb_is_delete, has_parts, is_some_map}
+use Rattle.sx_heads.proofs.FieldReads.{Holds, below_read, new_attributes_read, new_time_read, recursive_read, handle_read}
+use Rattle.sx_heads.proofs.RowTables.{verb_is_get, verb_is_put, verb_is_delete, has_parts}
 use Rattle.std.specs.Str.{is_utf8}
 use Rattle.std.proofs.lemmas.Bool.{and_parts}
 use Rattle.sx_guard.specs.Handle.{Handle}
 use Rattle.sx_call.specs.FieldLimits.{IsHandleId}
 use Rattle.sx_decode.specs.declared.asked.Asked.{Asked}
-use Rattle.sx_decode.specs.Asked.{or_empty, query_text, includes_snapshots, snapshot_named}
-use Rattle.sx_decode.specs.Words.{is_word_in_blanks}
-use Rattle.sx_decode.specs.Markers.{names_marker, handles_marker}
+use Rattle.sx_decode.specs.Asked.{or_empty, query_text}
 use Rattle.sx_heads.specs.Values.{escaped, handle_text}
 use Rattle.sx_heads.proofs.EncodedTexts.{escaped_utf8}
 use Rattle.sx_heads.proofs.PlainTexts.{ascii_utf8, decimal_utf8}

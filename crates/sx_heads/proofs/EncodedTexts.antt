@@ -1,7 +1,7 @@
 -- Texts that were percent-encoded are read back.
-use Rattle.std.proofs.Common.{◌≡◌, ◌<◌, ℕ, zero, suc, ◌+◌, ◌/◌, ◌%◌, ◌==◌, Bool, true, false, List, [], ◌∷◌, length, Option, Some, None, Ok}
-use Rattle.std.proofs.Common.{arith, subst, refl, sym, ap, ◌∙◌, inl, inr, cond, leb, ltb, ◌&&◌, encode_utf8_all}
-use Rattle.std.specs.Prelude.{All, is_none}
+use Rattle.std.proofs.Common.{◌≡◌, ◌<◌, ℕ, zero, suc, ◌+◌, ◌/◌, ◌%◌, ◌==◌, Bool, true, false, List, [], ◌∷◌, length, Some, None}
+use Rattle.std.proofs.Common.{arith, subst, refl, sym, ◌∙◌, inl, inr, cond, leb, ltb, ◌&&◌, encode_utf8_all}
+use Rattle.std.specs.Prelude.{All}
 use Rattle.std.proofs.lemmas.Bool.{false≢true, cases_lt, ltb-true, lt-ltb, le-ltb, and_parts}
 use Rattle.std.proofs.lemmas.List.Elements.{All-head, All-tail, All-nil, All-cons, All-append}
 use Rattle.std.proofs.lemmas.Str.{IsUtf8-from_is_utf8, is_utf8-from_IsUtf8, IsUtf8-from_ascii}
@@ -11,10 +11,10 @@ use Rattle.std.specs.Char.{is_digit, encode_utf8, IsScalar}
 use Rattle.std.specs.Fmt.{digit_glyph}
 use Rattle.std.specs.Str.{is_utf8, all_scalars}
 use Rattle.percent_encoding.specs.declared.ascii_set.AsciiSet.{AsciiSet}
-use Rattle.percent_encoding.specs.AsciiSet.{should_percent_encode, contains}
+use Rattle.percent_encoding.specs.AsciiSet.{should_percent_encode}
 use Rattle.percent_encoding.specs.Percent.{percent_encode, percent_encode_byte, percent_decode}
 use Rattle.percent_encoding.proofs.PercentLemmas.{IsByte, IsEscapeByte, percent_encode-nil, percent_encode_escaped, percent_encode_kept, round_trip, All-percent_encode, IsAscii-percent_encode}
-use Rattle.sx_decode.specs.Escapes.{is_bad_at, first_bad, if_utf8, decoded_text}
+use Rattle.sx_decode.specs.Escapes.{is_bad_at, first_bad, decoded_text}
 use Rattle.sx_heads.specs.declared.escapes.TheConstants.{PLAIN}
 use Rattle.sx_heads.specs.Values.{escaped}
 

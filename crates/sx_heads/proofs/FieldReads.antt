@@ -1,11 +1,11 @@
 -- Each field that is spelled is read back, where its header is what was spelled.
-use Rattle.std.proofs.Common.{◌≡◌, ◌≤◌, ℕ, ◌-◌, Bool, true, false, List, [], ◌∷◌, ◌++◌, codes, decimal, length, Option, Some, None, is_some, Ok, refl, sym, ap, ◌∙◌}
-use Rattle.std.specs.Prelude.{IfSome, if◌then◌else◌}
+use Rattle.std.proofs.Common.{◌≡◌, ◌≤◌, ℕ, ◌-◌, Bool, true, false, List, [], codes, decimal, Option, Some, None, is_some, Ok, refl}
+use Rattle.std.specs.Prelude.{IfSome}
 use Rattle.std.specs.Option.{option_map}
 use Rattle.sx_base.specs.Moment.{moment_text, IsWritten}
 use Rattle.sx_extent.specs.Ranges.{Interval}
 use Rattle.sx_guard.specs.Handle.{Handle}
-use Rattle.sx_http.specs.Lookup.{has_header, header_values}
+use Rattle.sx_http.specs.Lookup.{has_header}
 use Rattle.sx_http.specs.declared.heads.Header.{Header}
 use Rattle.sx_lease.specs.declared.lease.LeaseId.{LeaseId}
 use Rattle.sx_names.specs.Limits.{IsQuota}
@@ -20,11 +20,10 @@ use Rattle.sx_call.specs.declared.leases.LeaseAction.TheVariants.{Acquire, Chang
 use Rattle.sx_call.specs.declared.targets.Target.{Target}
 use Rattle.sx_call.specs.declared.times.Time.{Time}
 use Rattle.sx_call.specs.Targets.{is_below_root}
-use Rattle.sx_decode.specs.Reading.{Reading, with_next}
 use Rattle.sx_decode.specs.Lookup.{one_header, needed_header}
 use Rattle.sx_decode.specs.Words.{is_word}
 use Rattle.sx_decode.specs.Contents.{content_text, digest_of, content_of}
-use Rattle.sx_decode.specs.Facts.{new_attributes, set_attributes, new_time, set_time, attributes_or_new}
+use Rattle.sx_decode.specs.Facts.{new_attributes, set_attributes, new_time, set_time}
 use Rattle.sx_decode.specs.FileRows.{new_length, set_length, needed_word}
 use Rattle.sx_decode.specs.Handles.{handle_of, recursive_of}
 use Rattle.sx_decode.specs.Leases.{maybe_id, needed_id, lease_of, scope_of, duration_of, acquire_of, change_of, release_of, action_named, lease_action}

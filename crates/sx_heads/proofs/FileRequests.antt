@@ -1,8 +1,7 @@
 -- The calls on files are read back.
-use Rattle.std.proofs.Common.{◌≡◌, ℕ, ◌==◌, Bool, true, false, is_some, List, [], ◌∷◌, ◌++◌, length, codes, decimal, Option, Some, None, Ok, refl, sym, ap, ◌∙◌, append-nil}
-use Rattle.std.specs.Prelude.{IfSome}
+use Rattle.std.proofs.Common.{◌≡◌, ℕ, ◌==◌, true, false, is_some, List, [], ◌∷◌, length, codes, decimal, Some, None, Ok, refl, ◌∙◌, append-nil}
 use Rattle.std.specs.Option.{option_map}
-use Rattle.sx_base.specs.Moment.{moment_text, IsWritten}
+use Rattle.sx_base.specs.Moment.{moment_text}
 use Rattle.sx_http.specs.Lookup.{has_header, header_values}
 use Rattle.sx_http.specs.declared.heads.Header.{Header}
 use Rattle.sx_call.specs.CallLimits.{IsWithinLimits}
@@ -21,12 +20,12 @@ use Rattle.sx_call.specs.declared.file_calls.DeleteFile.{DeleteFile}
 use Rattle.sx_call.specs.declared.file_calls.LeaseFile.{LeaseFile}
 use Rattle.sx_decode.specs.declared.forms.Row.TheVariants as row
 use Rattle.sx_decode.specs.declared.forms.Verb.TheVariants as verb
-use Rattle.sx_decode.specs.declared.targets.Place.TheVariants.{Account, Inside}
+use Rattle.sx_decode.specs.declared.targets.Place.TheVariants.{Inside}
 use Rattle.sx_decode.specs.Bodies.{no_body}
 use Rattle.sx_decode.specs.Words.{is_word}
 use Rattle.sx_decode.specs.Table.{fits, row_of}
 use Rattle.sx_decode.specs.Metadata.{meta_of}
-use Rattle.sx_decode.specs.Spelling.{verb_of, shape_of, restype_of, comp_of, comp_named, is_clear, key_of, row_for, account_call, call_by_row, call_inside, call_without_body, bodiless_call, inside_call}
+use Rattle.sx_decode.specs.Spelling.{shape_of, restype_of, comp_of, comp_named, is_clear, key_of, row_for, call_by_row, call_inside, call_without_body, bodiless_call, inside_call}
 use Rattle.sx_decode.specs.ShareRows.{plain_call}
 use Rattle.sx_decode.specs.DirectoryRows.{directory_call}
 use Rattle.sx_decode.specs.FileRows.{file_call}
@@ -34,13 +33,13 @@ use Rattle.sx_decode.specs.FileRows.{create_file, new_file, new_facts, get_file,
 use Rattle.sx_heads.specs.FileSpellings as spelled
 use Rattle.sx_heads.specs.Heads.{IsReadAs}
 use Rattle.sx_heads.specs.Spellings.{headers_spelled, request_of}
-use Rattle.sx_heads.specs.Values.{id_text, attributes_text, bytes_text, interval_text, time_text, bool_text, handle_or_all}
-use Rattle.sx_heads.proofs.Requests.{field_is, has_field, values_of_field, meta_is, reads_as, reads_plain, plain_asked}
+use Rattle.sx_heads.specs.Values.{id_text, attributes_text, bytes_text, interval_text, time_text}
+use Rattle.sx_heads.proofs.Requests.{field_is, has_field, values_of_field, meta_is, reads_plain, plain_asked}
 use Rattle.sx_heads.proofs.PlainTexts.{plain_utf8}
 use Rattle.sx_heads.specs.Digests.{IsReadDigest}
-use Rattle.sx_heads.proofs.FieldReads.{Holds, new_quota_read, set_quota_read, include_read, lease_read, scope_read, below_read, new_attributes_read, set_attributes_read, new_time_read, set_time_read, new_length_read, set_length_read, word_read, recursive_read, handle_read, HoldsContent, content_read, span_read, interval_read, action_back}
+use Rattle.sx_heads.proofs.FieldReads.{Holds, lease_read, scope_read, below_read, new_attributes_read, set_attributes_read, new_time_read, set_time_read, new_length_read, set_length_read, word_read, HoldsContent, content_read, span_read, interval_read, action_back}
 use Rattle.sx_heads.proofs.RowTables.{verb_is_get, verb_is_put, verb_is_head, verb_is_delete, has_parts, is_some_map}
-use Rattle.std.proofs.Common.{◌+◌, ◌-◌, ◌≤◌, ◌<◌, ◌&&◌, arith, nat_le, nat_lt}
+use Rattle.std.proofs.Common.{◌+◌, ◌-◌, ◌≤◌, ◌&&◌, arith, nat_le, nat_lt}
 use Rattle.sx_decode.specs.declared.asked.Asked.{Asked}
 use Rattle.std.proofs.lemmas.Bool.{and_parts}
 use Rattle.std.proofs.lemmas.Bool.Decides.{nat_tests}
@@ -52,7 +51,6 @@ use Rattle.sx_call.specs.declared.ranges.TheConstants.{OFFSET_LIMIT}
 use Rattle.sx_decode.specs.Bodies.{piece_of, with_digest, update_of}
 use Rattle.sx_decode.specs.Contents.{digest_of}
 use Rattle.sx_decode.specs.Leases.{lease_action}
-use Rattle.sx_heads.specs.Spellings.{ending}
 use Rattle.sx_heads.specs.ShareSpellings.{action_fields}
 use Rattle.sx_heads.proofs.ShareRequests.{action_version}
 

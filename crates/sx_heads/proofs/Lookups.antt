@@ -12,7 +12,7 @@ use Rattle.sx_names.specs.declared.meta_pair.MetaPair.{MetaPair}
 use Rattle.sx_call.specs.declared.refusals.Syntax.{Syntax}
 use Rattle.sx_call.specs.declared.refusals.Syntax.TheVariants.{Header as BadHeader}
 use Rattle.sx_decode.specs.Lookup.{only, one_header}
-use Rattle.sx_heads.specs.Fields.{Field, one, metas, header_if, meta_header, headers_of, with_fields}
+use Rattle.sx_heads.specs.Fields.{Field, one, metas, header_if, meta_header, with_fields}
 
 pub values-append : (n : List ℕ) (a b : List Header) → header_values n (a ++ b) ≡ header_values n a ++ header_values n b
 values-append n a b = rw (filter-append (is_named n) a b) (map-append (λ (h : Header). h.value) (filter (is_named n) a) (filter (is_named n) b))

@@ -1,8 +1,8 @@
 -- Metadata that is spelled is read back.
-use Rattle.std.proofs.Common.{◌≡◌, ◌≤◌, ℕ, ◌+◌, nat_le, Bool, true, false, cond, not, ◌&&◌, List, [], ◌∷◌, ◌++◌, length, codes, map, drop, bytes_eq, nat_eq}
+use Rattle.std.proofs.Common.{◌≡◌, ◌≤◌, ℕ, nat_le, Bool, true, false, not, ◌&&◌, List, [], ◌∷◌, ◌++◌, length, codes, map, bytes_eq, nat_eq}
 use Rattle.std.proofs.Common.{Option, Some, None, Ok, arith, refl, sym, ap, subst, ◌∙◌, append-nil, append_assoc, length-append}
-use Rattle.std.specs.List.{filter, list_all, starts_with, flat_map}
-use Rattle.std.specs.Ordering.{nat_cmp, is_lt, is_eq, ordering_reverse, match_ordering}
+use Rattle.std.specs.List.{filter, list_all, starts_with}
+use Rattle.std.specs.Ordering.{nat_cmp, is_lt, is_eq, ordering_reverse}
 use Rattle.std.specs.declared.cmp.Ordering.{Ordering}
 use Rattle.std.specs.declared.cmp.Ordering.TheVariants.{Less, Equal, Greater}
 use Rattle.std.specs.Cmp.Lexicographic.{slice_cmp}
@@ -18,13 +18,12 @@ use Rattle.std.proofs.lemmas.Slice.Eq.{bytes_eq-Decides}
 use Rattle.sx_http.specs.Lookup.{is_named, header_values}
 use Rattle.sx_http.specs.declared.heads.Header.{Header}
 use Rattle.sx_names.specs.Header.{is_header_text}
-use Rattle.sx_names.specs.Meta.{is_meta, is_meta_pair, follows, in_order, meta_length, pair_length}
+use Rattle.sx_names.specs.Meta.{is_meta, is_meta_pair, follows, in_order, meta_length}
 use Rattle.sx_names.specs.MetaPair.{is_meta_name}
 use Rattle.sx_names.specs.declared.meta.TheConstants.{MAX_META_NAMES, MAX_META_BYTES}
 use Rattle.sx_names.specs.declared.meta_pair.MetaPair.{MetaPair}
-use Rattle.sx_decode.specs.Reading.{Reading, with_next}
-use Rattle.sx_decode.specs.Metadata.{is_meta_header, put_in_order, meta_header_names, joined, meta_pair, value_read, pair_read, with_pair, with_name, pairs_of, meta_of}
-use Rattle.sx_heads.specs.Fields.{Field, one, metas, header, header_if, meta_header, headers_of, with_fields}
+use Rattle.sx_decode.specs.Metadata.{is_meta_header, put_in_order, meta_header_names, with_name, pairs_of, meta_of}
+use Rattle.sx_heads.specs.Fields.{Field, one, metas, header_if, meta_header, with_fields}
 use Rattle.sx_heads.proofs.Lookups.{values-append}
 
 -- the name of a pair's header

@@ -1,5 +1,5 @@
 -- The path that is spelled names its place.
-use Rattle.std.proofs.Common.{◌≡◌, ◌<◌, ℕ, suc, ◌+◌, ◌-◌, ◌==◌, Bool, true, false, not, ◌&&◌, nat_le, List, [], ◌∷◌, ◌++◌, length, map, get_or, slice_index, chars}
+use Rattle.std.proofs.Common.{◌≡◌, ◌<◌, ℕ, suc, ◌+◌, ◌-◌, ◌==◌, Bool, true, false, List, [], ◌∷◌, ◌++◌, length, map, slice_index}
 use Rattle.std.proofs.Common.{Option, Some, None, Ok, arith, refl, sym, ap, ◌∙◌, append-nil, length-append}
 use Rattle.std.specs.Prelude.{All, is_none}
 use Rattle.std.specs.List.{slice_split, flat_map, list_all, before_first, after_first, position_or_len}
@@ -20,7 +20,7 @@ use Rattle.sx_call.specs.declared.targets.Target.{Target}
 use Rattle.sx_call.specs.FieldLimits.{IsTarget}
 use Rattle.sx_decode.specs.declared.targets.Place.{Place}
 use Rattle.sx_decode.specs.declared.targets.Place.TheVariants.{Account, Inside}
-use Rattle.sx_decode.specs.Reading.{Reading, with_next, each_read, next_number}
+use Rattle.sx_decode.specs.Reading.{each_read, next_number}
 use Rattle.sx_decode.specs.Targets.{segment_of, unless_broken, share_of, part_of, path_of, place_of_segments, is_slash, without_slash, place_behind_slash, place_of}
 use Rattle.sx_heads.specs.declared.escapes.TheConstants.{PLAIN}
 use Rattle.sx_heads.specs.Values.{escaped}

@@ -1,7 +1,7 @@
 -- Numbers, moments and ids as texts.
 use native.Mathlib.Nat as nat
-use Rattle.std.proofs.Common.{◌≡◌, ◌<◌, ◌≤◌, ℕ, zero, suc, ◌+◌, ◌-◌, ◌*◌, ◌/◌, ◌%◌, ◌^◌, ◌==◌, nat_le, nat_lt, nat_eq, Bool, true, false, ◌&&◌, List, [], ◌∷◌, ◌++◌, length, codes, bytes_eq, get_or, map}
-use Rattle.std.proofs.Common.{Option, Some, None, Ok, arith, refl, sym, ap, ◌∙◌, inl, rules, decimal, subst, append-nil, IsAscii}
+use Rattle.std.proofs.Common.{◌≡◌, ◌<◌, ◌≤◌, ℕ, zero, suc, ◌+◌, ◌*◌, ◌/◌, ◌%◌, ◌^◌, ◌==◌, nat_lt, nat_eq, true, false, List, [], ◌∷◌, ◌++◌, length, codes, bytes_eq, map}
+use Rattle.std.proofs.Common.{Some, Ok, arith, refl, sym, inl, rules, decimal}
 use Rattle.std.specs.Prelude.{All}
 use Rattle.std.specs.List.{list_all}
 use Rattle.std.specs.Str.{is_utf8}
@@ -26,7 +26,7 @@ use Rattle.sx_names.specs.Limits.{IsPageSize}
 use Rattle.sx_call.specs.FieldLimits.{IsLeaseId}
 use Rattle.sx_decode.specs.Numbers.{number_of}
 use Rattle.sx_decode.specs.Moments.{moment_of}
-use Rattle.sx_decode.specs.Leases.{lease_id_of, id_of_bytes}
+use Rattle.sx_decode.specs.Leases.{lease_id_of}
 use Rattle.sx_decode.specs.Words.{is_word}
 use Rattle.sx_decode.proofs.MomentTexts.{moment_is}
 use Rattle.sx_heads.specs.Values.{id_text}

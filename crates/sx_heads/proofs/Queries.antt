@@ -2,24 +2,21 @@
 use Rattle.std.proofs.Common.{◌≡◌, ℕ, ◌==◌, Bool, true, false, cond, not, ◌&&◌, List, [], ◌∷◌, ◌++◌, length, map, codes, bytes_eq}
 use Rattle.std.proofs.Common.{Option, Some, None, Ok, arith, refl, sym, ap, ◌∙◌, append-nil, append_assoc}
 use Rattle.std.specs.Prelude.{All, IfSome, if◌then◌else◌}
-use Rattle.std.specs.List.{slice_split, flat_map, list_all, filter, before_first, after_first}
-use Rattle.std.specs.Option.{option_map}
+use Rattle.std.specs.List.{slice_split, flat_map, list_all, before_first, after_first}
 use Rattle.std.specs.Str.{is_utf8}
 use Rattle.std.specs.Char.{to_ascii_lowercase}
-use Rattle.std.proofs.lemmas.Bool.{false≢true, and_parts}
+use Rattle.std.proofs.lemmas.Bool.{false≢true}
 use Rattle.std.proofs.lemmas.Grind.{flat_map-append}
-use Rattle.std.proofs.lemmas.List.Elements.{All-nil, All-cons, All-append, All-head, All-tail}
+use Rattle.std.proofs.lemmas.List.Elements.{All-nil, All-cons, All-append}
 use Rattle.std.proofs.lemmas.List.Splits.{slice_split_none, slice_split_at}
 use Rattle.percent_encoding.specs.Percent.{percent_decode}
-use Rattle.sx_call.specs.declared.refusals.Syntax.{Syntax}
 use Rattle.sx_call.specs.declared.refusals.Syntax.TheVariants.{Query as BadQuery}
 use Rattle.sx_decode.specs.declared.parameters.Parameter.{Parameter}
-use Rattle.sx_decode.specs.Reading.{Reading, with_next}
+use Rattle.sx_decode.specs.Reading.{with_next}
 use Rattle.sx_decode.specs.Lookup.{only}
-use Rattle.sx_decode.specs.Escapes.{decoded_text}
-use Rattle.sx_decode.specs.Parameters.{is_and, is_equals, is_question, parameter_of, parameters, has_name, parameter_values, encoded, encoded_or_none, one_parameter}
+use Rattle.sx_decode.specs.Parameters.{is_and, is_equals, is_question, parameter_of, parameters, parameter_values, encoded_or_none, one_parameter}
 use Rattle.sx_heads.specs.Values.{escaped}
-use Rattle.sx_heads.specs.Targets.{Query, separator, with_parameter, query_text}
+use Rattle.sx_heads.specs.Targets.{Query, with_parameter, query_text}
 use Rattle.sx_heads.proofs.EncodedTexts.{text_back, lacks_and}
 use Rattle.sx_heads.proofs.Paths.{LacksQuestion, cut_at, cut_none}
 

@@ -1,5 +1,5 @@
 -- Each call of REST is read back.
-use Rattle.std.proofs.Common.{◌≡◌, refl, sym}
+use Rattle.std.proofs.Common.{◌≡◌}
 use Rattle.sx_call.specs.Calls.{door_of}
 use Rattle.sx_call.specs.CallLimits.{IsWithinLimits}
 use Rattle.sx_call.specs.declared.calls.Call.{Call}

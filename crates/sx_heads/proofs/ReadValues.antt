@@ -1,11 +1,10 @@
 -- The values of fields and parameters that are spelled are read back.
-use Rattle.std.proofs.Common.{◌≡◌, ◌<◌, ◌≤◌, ℕ, ◌+◌, ◌-◌, ◌^◌, ◌==◌, nat_le, nat_lt, nat_eq, min, Bool, true, false, not, ◌&&◌, ◌||◌, List, [], ◌∷◌, ◌++◌, length, codes, bytes_eq}
-use Rattle.std.proofs.Common.{Option, Some, None, Ok, arith, refl, sym, ap, ◌∙◌, decimal, append-nil, append_assoc, length-append, is_none, IfSome}
+use Rattle.std.proofs.Common.{◌≡◌, ◌<◌, ◌≤◌, ℕ, ◌+◌, ◌-◌, ◌^◌, ◌==◌, nat_le, nat_lt, nat_eq, min, Bool, true, false, ◌||◌, List, [], ◌∷◌, ◌++◌, length, codes, bytes_eq}
+use Rattle.std.proofs.Common.{Option, Some, None, Ok, arith, refl, ◌∙◌, decimal, append-nil, append_assoc, length-append, IfSome}
 use Rattle.std.specs.Prelude.{All}
-use Rattle.std.specs.List.{list_all, list_any, before_first, after_first}
+use Rattle.std.specs.List.{list_all, list_any}
 use Rattle.std.specs.Option.{option_map}
 use Rattle.std.specs.Str.{is_utf8}
-use Rattle.std.specs.Char.{is_ascii_digit}
 use Rattle.std.proofs.lemmas.Bool.{false≢true, and_parts}
 use Rattle.std.proofs.lemmas.Bool.Decides.{nat_tests}
 use Rattle.std.proofs.lemmas.List.Elements.{All-nil, All-cons, All-head, All-tail}
@@ -16,7 +15,6 @@ use Rattle.sx_guard.specs.Handle.{Handle}
 use Rattle.sx_lease.specs.declared.lease.LeaseId.{LeaseId}
 use Rattle.sx_names.specs.Limits.{IsQuota, IsPageSize}
 use Rattle.sx_names.specs.Names.{is_share_name, is_share_byte}
-use Rattle.sx_names.specs.Header.{is_content_text}
 use Rattle.sx_names.specs.MetaPair.{is_meta_name, is_meta_byte}
 use Rattle.sx_call.specs.FieldLimits.{IsLeaseId, IsHandleId, IsSharesMarker, IsTime, IsContentText}
 use Rattle.sx_call.specs.Leases.{ReadScope, is_read_scope}
@@ -27,22 +25,20 @@ use Rattle.sx_call.specs.declared.ranges.TheConstants.{OFFSET_LIMIT}
 use Rattle.sx_call.specs.declared.listings.SharesMarker.{SharesMarker}
 use Rattle.sx_call.specs.declared.times.Time.{Time}
 use Rattle.sx_call.specs.declared.times.Time.TheVariants.{Keep, Now, At}
-use Rattle.sx_decode.specs.Reading.{Reading, with_next}
 use Rattle.sx_decode.specs.Numbers.{number_of, limited}
 use Rattle.sx_decode.specs.Words.{is_word}
-use Rattle.sx_decode.specs.Moments.{moment_of}
 use Rattle.sx_decode.specs.Leases.{id_if_given, id_read, lease_id_of, scope_with}
 use Rattle.sx_decode.specs.Asked.{page_size, limited_page, snapshot_named, query_text, or_empty}
 use Rattle.sx_decode.specs.Contents.{text_read, digest_if_given}
 use Rattle.sx_decode.specs.Facts.{time_or_now, time_or_kept}
-use Rattle.sx_decode.specs.Handles.{handle_numbers, handle_named, handle_read, handle_within, marker_read, recursive_read, is_dot, is_handle_number}
-use Rattle.sx_decode.specs.Ranges.{is_dash, bytes_of, bounds_of, from_first, to_last, first_read, first_if_given, first_within, is_closed_in_order, interval_read, interval_within}
+use Rattle.sx_decode.specs.Handles.{handle_numbers, handle_named, handle_within, marker_read, recursive_read, is_dot, is_handle_number}
+use Rattle.sx_decode.specs.Ranges.{is_dash, bytes_of, bounds_of, from_first, to_last, first_if_given, is_closed_in_order, interval_read}
 use Rattle.sx_decode.specs.Markers.{is_at, shares_marker, shares_read, share_in_marker, moment_in_marker, names_marker, handles_marker}
 use Rattle.sx_decode.specs.ShareRows.{quota_read}
 use Rattle.sx_decode.specs.FileRows.{length_read, length_if_given}
 use Rattle.sx_heads.specs.Digests.{IsReadDigest}
 use Rattle.sx_heads.specs.Values.{escaped, id_text, bytes_text, last_text, interval_text, handle_text, handle_or_all, bool_text, time_text, at_moment, shares_marker_text, digest_text}
-use Rattle.sx_heads.proofs.EncodedTexts.{text_back, apart_from}
+use Rattle.sx_heads.proofs.EncodedTexts.{text_back}
 use Rattle.sx_heads.proofs.Paths.{cut_at, cut_none, share_name_all}
 use Rattle.sx_heads.proofs.PlainTexts.{number_back, decimal_digits, digits_lack, decimal_first, moment_back, moment_no_now, moment_no_preserve, id_back, AreAscii, ascii_utf8, ascii_both, decimal_ascii, moment_ascii}
 

@@ -1,11 +1,9 @@
 -- A request that is spelled is read part by part.
-use Rattle.std.proofs.Common.{◌≡◌, ℕ, Bool, true, false, List, [], ◌∷◌, ◌++◌, length, codes, bytes_eq, is_some, Option, Some, None, Ok, refl, sym, ap, ◌∙◌}
+use Rattle.std.proofs.Common.{◌≡◌, ℕ, true, false, List, [], ◌++◌, codes, is_some, Option, Some, None, Ok, refl}
 use Rattle.std.specs.Prelude.{IfSome}
-use Rattle.std.specs.List.{before_first, after_first}
 use Rattle.std.specs.Option.{option_map}
 use Rattle.std.specs.Str.{is_utf8}
 use Rattle.sx_http.specs.Lookup.{has_header, header_values}
-use Rattle.sx_http.specs.declared.heads.Header.{Header}
 use Rattle.sx_names.specs.Meta.{is_meta}
 use Rattle.sx_names.specs.declared.meta_pair.MetaPair.{MetaPair}
 use Rattle.sx_base.specs.Moment.{moment_text, IsWritten}
@@ -18,20 +16,17 @@ use Rattle.sx_decode.specs.Reading.{Reading, with_next}
 use Rattle.sx_decode.specs.Lookup.{one_header}
 use Rattle.sx_decode.specs.Metadata.{meta_of}
 use Rattle.sx_decode.specs.Words.{is_word, is_word_in_blanks}
-use Rattle.sx_decode.specs.Parameters.{is_question, parameters}
 use Rattle.sx_decode.specs.Asked.{snapshot_named, snapshot_asked, or_empty, query_text, prefix_asked, page_size, page_asked, includes_snapshots, snapshots_asked, asked_of}
-use Rattle.sx_decode.specs.Targets.{place_of}
 use Rattle.sx_decode.specs.Spelling.{verb_of, version_of, key_of, row_for, call_by_row, reading}
-use Rattle.sx_heads.specs.Fields.{Field, with_fields}
+use Rattle.sx_heads.specs.Fields.{Field}
 use Rattle.sx_heads.specs.Targets.{Query, path_text, asks}
-use Rattle.sx_heads.specs.Targets as target
 use Rattle.sx_heads.specs.Spellings.{Spelling, ending, target_text, headers_spelled, request_of}
 use Rattle.sx_heads.proofs.Lookups.{IsPlain, value_in, is_single, listed, one_is, has_is, values_are}
 use Rattle.sx_heads.proofs.MetaFields.{are_others, metas_in, meta_back}
 use Rattle.sx_heads.proofs.Paths.{IsPlace, place_back, path_lacks}
 use Rattle.sx_heads.proofs.PlainTexts.{ascii_utf8, moment_ascii}
 use Rattle.sx_heads.proofs.Queries.{params_of, cut_back, parameters_back, parameter_back}
-use Rattle.sx_heads.proofs.ReadValues.{snapshot_back, query_text_back}
+use Rattle.sx_heads.proofs.ReadValues.{snapshot_back}
 
 -- a header that is spelled is the field of its name
 pub field_is : (n : List ℕ) (fields : List Field) (body : List ℕ) → IsPlain n → is_single n (fields ++ ending body) ≡ true → one_header n (headers_spelled fields body) ≡ Ok (value_in n (fields ++ ending body))

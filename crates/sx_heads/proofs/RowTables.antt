@@ -1,5 +1,5 @@
 -- Methods, and paths below the root.
-use Rattle.std.proofs.Common.{◌≡◌, ℕ, ◌==◌, nat_lt, Bool, true, false, is_some, List, length, codes, Option, Some, None, Ok, refl, arith}
+use Rattle.std.proofs.Common.{◌≡◌, ◌==◌, true, false, is_some, length, codes, Option, Some, None, Ok, refl, arith}
 use Rattle.std.specs.Option.{option_map}
 use Rattle.std.proofs.lemmas.Bool.Decides.{nat_tests}
 use Rattle.sx_call.specs.Targets.{is_below_root}

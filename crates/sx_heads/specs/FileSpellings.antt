@@ -1,5 +1,5 @@
 -- How the calls on files are spelled.
-use Rattle.std.specs.Prelude.{ℕ, ◌++◌, List, [], ◌∷◌, codes, decimal, length, ◌+◌, Option, Some, None}
+use Rattle.std.specs.Prelude.{ℕ, List, [], ◌∷◌, codes, decimal, length, ◌+◌, Option, Some, None}
 use Rattle.std.specs.Option.{option_map}
 use Rattle.sx_base.specs.Moment.{moment_text}
 use Rattle.sx_names.specs.declared.content.Content.{Content}

@@ -1,5 +1,5 @@
 -- How each call of REST is spelled, and that its spelling is read as the call.
-use Rattle.std.specs.Prelude.{◌≡◌, List, [], codes, None, Ok}
+use Rattle.std.specs.Prelude.{◌≡◌, [], None, Ok}
 use Rattle.sx_http.specs.declared.heads.Request.{Request}
 use Rattle.sx_call.specs.declared.calls.Call.{Call}
 use Rattle.sx_call.specs.declared.calls.Call.TheVariants as call

@@ -3,7 +3,6 @@ use Rattle.std.specs.Prelude.{ℕ, if◌then◌else◌, Bool, List, [], ◌∷�
 use Rattle.std.specs.Option.{option_map}
 use Rattle.sx_base.specs.Moment.{moment_text}
 use Rattle.sx_lease.specs.declared.lease.LeaseId.{LeaseId}
-use Rattle.sx_call.specs.Leases.{ReadScope}
 use Rattle.sx_call.specs.declared.leases.LeaseAction.{LeaseAction}
 use Rattle.sx_call.specs.declared.leases.LeaseAction.TheVariants.{Acquire, Change, Release, Break}
 use Rattle.sx_call.specs.declared.share_calls.ListShares.{ListShares}

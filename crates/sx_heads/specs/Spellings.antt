@@ -1,6 +1,5 @@
 -- One spelling of a request.
 use Rattle.std.specs.Prelude.{ℕ, ◌++◌, true, List, [], ◌∷◌, length, codes, decimal, Some}
-use Rattle.sx_http.specs.declared.heads.Head.{Head}
 use Rattle.sx_http.specs.declared.heads.Header.{Header}
 use Rattle.sx_http.specs.declared.heads.Request.{Request}
 use Rattle.sx_decode.specs.declared.targets.Place.{Place}

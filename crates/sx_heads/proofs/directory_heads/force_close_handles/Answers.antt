@@ -1,4 +1,4 @@
-use Rattle.std.proofs.Common.{◌≡◌, ℕ, List, codes, Some, None, ap, ◌∙◌}
+use Rattle.std.proofs.Common.{ℕ, List, codes, Some, None, ap, ◌∙◌}
 use Rattle.sx_http.specs.declared.heads.Header.{Header}
 use Rattle.sx_decode.specs.declared.targets.Place.TheVariants.{Inside}
 use Rattle.sx_heads.specs.DirectorySpellings.{of_path, close_fields}

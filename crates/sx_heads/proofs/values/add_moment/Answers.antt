@@ -1,4 +1,4 @@
-use Rattle.std.proofs.Common.{IsUtf8, List, ℕ, sym, subst}
+use Rattle.std.proofs.Common.{IsUtf8, sym, subst}
 use Rattle.std.proofs.lemmas.Str.{IsUtf8-from_is_utf8}
 use Rattle.sx_base.specs.Moment.{moment_text}
 use Rattle.sx_heads.proofs.PlainTexts.{ascii_utf8, moment_ascii}
