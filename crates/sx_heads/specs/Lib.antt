@@ -1,0 +1,11 @@
+pub mod Digests
+pub mod DirectorySpellings
+pub mod Fields
+pub mod FileSpellings
+pub mod Heads
+pub mod Queries
+pub mod ShareSpellings
+pub mod Spellings
+pub mod Targets
+pub mod Values
+pub mod Words
