@@ -1,0 +1,5 @@
+pub mod Asks
+pub mod Ends
+pub mod Hearing
+pub mod RestCalls
+pub mod Turns
