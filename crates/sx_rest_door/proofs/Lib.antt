@@ -1,5 +1,5 @@
 pub mod Asks
 pub mod Ends
-pub mod Hearing
+pub mod Judgements
 pub mod RestCalls
 pub mod Turns

@@ -1,12 +1,14 @@
 -- A request spells a REST call.
-use Rattle.std.proofs.Common.{ℕ, ◌≡◌, List, refl, subst, Option, Some, None, Result, Ok, Err}
+use Rattle.std.proofs.Common.{ℕ, ◌≡◌, true, false, List, codes, refl, subst, Option, Some, None, Result, Ok, Err}
 use Rattle.std.specs.List.{before_first, after_first}
 use Rattle.sx_extent.specs.Ranges.{Interval}
+use Rattle.sx_extent.specs.declared.piece.TheConstants.{PIECE_LIMIT}
 use Rattle.sx_http.specs.declared.heads.Header.{Header}
 use Rattle.sx_http.specs.declared.heads.Request.{Request}
 use Rattle.sx_call.specs.Calls.{door_of}
 use Rattle.sx_call.specs.declared.calls.Call.{Call}
 use Rattle.sx_call.specs.declared.doors.Door.TheVariants.{Rest}
+use Rattle.sx_call.specs.declared.ranges.TheConstants.{OFFSET_LIMIT}
 use Rattle.sx_call.specs.declared.targets.Target.{Target}
 use Rattle.sx_decode.specs.declared.asked.Asked.{Asked}
 use Rattle.sx_decode.specs.declared.forms.Row.{Row}
@@ -24,6 +26,20 @@ use Rattle.sx_decode.specs.DirectoryRows.{force_close_handles, list_directory, l
 use Rattle.sx_decode.specs.FileRows.{new_file, create_file, get_file, get_file_properties, set_properties}
 use Rattle.sx_decode.specs.FileRows.{set_file_properties, get_file_metadata, set_file_metadata, update_with, update_at}
 use Rattle.sx_decode.specs.FileRows.{update_range, clear_range, list_ranges, delete_file, lease_file, file_call}
+use Rattle.sx_decode.specs.Asked.{asked_of}
+use Rattle.sx_decode.specs.Bodies.{no_body, update_of}
+use Rattle.sx_decode.specs.Contents.{content_of, digest_of}
+use Rattle.sx_decode.specs.Facts.{new_attributes, new_time}
+use Rattle.sx_decode.specs.FileRows.{needed_word, new_facts, new_length, set_facts, set_length}
+use Rattle.sx_decode.specs.Handles.{handle_of, recursive_of}
+use Rattle.sx_decode.specs.Leases.{lease_action, lease_of, scope_of}
+use Rattle.sx_decode.specs.Markers.{handles_marker, names_marker, shares_marker}
+use Rattle.sx_decode.specs.Metadata.{meta_of}
+use Rattle.sx_decode.specs.Parameters.{is_question, parameters}
+use Rattle.sx_decode.specs.Ranges.{interval_of, span_of}
+use Rattle.sx_decode.specs.ShareRows.{include_of, new_quota, set_quota}
+use Rattle.sx_decode.specs.Spelling.{key_of, row_for, verb_of, version_of}
+use Rattle.sx_decode.specs.Targets.{below_root, place_of}
 
 -- what is read, if a call is, is a REST call
 abbrev pub IsRest : Reading Call → Type 0
@@ -36,107 +52,107 @@ behind (Err refusal) f h = tt
 
 list_shares_rests : (a : Asked) → IsRest (list_shares a)
 unfolding list_shares
-list_shares_rests a = behind _ _ (λ _. refl)
+list_shares_rests a = behind (shares_marker a.marker) _ (λ marker. refl)
 
 create_share_rests : (share : List ℕ) (headers : List Header) → IsRest (create_share share headers)
 unfolding create_share
-create_share_rests share headers = behind _ _ (λ _. behind _ _ (λ _. refl))
+create_share_rests share headers = behind (new_quota headers) _ (λ quota. behind (meta_of headers) _ (λ meta. refl))
 
 get_share_properties_rests : (share : List ℕ) (snap : Option ℕ) (headers : List Header) → IsRest (get_share_properties share snap headers)
 unfolding get_share_properties
-get_share_properties_rests share snap headers = behind _ _ (λ _. refl)
+get_share_properties_rests share snap headers = behind (scope_of snap headers) _ (λ scope. refl)
 
 set_share_properties_rests : (share : List ℕ) (headers : List Header) → IsRest (set_share_properties share headers)
 unfolding set_share_properties
-set_share_properties_rests share headers = behind _ _ (λ _. behind _ _ (λ _. refl))
+set_share_properties_rests share headers = behind (set_quota headers) _ (λ quota. behind (lease_of headers) _ (λ lease. refl))
 
 get_share_metadata_rests : (share : List ℕ) (snap : Option ℕ) (headers : List Header) → IsRest (get_share_metadata share snap headers)
 unfolding get_share_metadata
-get_share_metadata_rests share snap headers = behind _ _ (λ _. refl)
+get_share_metadata_rests share snap headers = behind (scope_of snap headers) _ (λ scope. refl)
 
 set_share_metadata_rests : (share : List ℕ) (headers : List Header) → IsRest (set_share_metadata share headers)
 unfolding set_share_metadata
-set_share_metadata_rests share headers = behind _ _ (λ _. behind _ _ (λ _. refl))
+set_share_metadata_rests share headers = behind (meta_of headers) _ (λ meta. behind (lease_of headers) _ (λ lease. refl))
 
 delete_share_rests : (share : List ℕ) (headers : List Header) → IsRest (delete_share share headers)
 unfolding delete_share
-delete_share_rests share headers = behind _ _ (λ _. behind _ _ (λ _. refl))
+delete_share_rests share headers = behind (include_of headers) _ (λ include. behind (lease_of headers) _ (λ lease. refl))
 
 snapshot_share_rests : (share : List ℕ) (headers : List Header) → IsRest (snapshot_share share headers)
 unfolding snapshot_share
-snapshot_share_rests share headers = behind _ _ (λ _. refl)
+snapshot_share_rests share headers = behind (meta_of headers) _ (λ meta. refl)
 
 lease_share_rests : (share : List ℕ) (headers : List Header) → IsRest (lease_share share headers)
 unfolding lease_share
-lease_share_rests share headers = behind _ _ (λ _. refl)
+lease_share_rests share headers = behind (lease_action headers) _ (λ action. refl)
 
-create_directory_rests : (at : Target) (headers : List Header) → IsRest (create_directory at headers)
+create_directory_rests : (target : Target) (headers : List Header) → IsRest (create_directory target headers)
 unfolding create_directory
-create_directory_rests at headers = behind _ _ (λ _. behind _ _ (λ _. behind _ _ (λ _. behind _ _ (λ _. behind _ _ (λ _. refl)))))
+create_directory_rests target headers = behind (below_root target) _ (λ at. behind (new_attributes true headers) _ (λ attributes. behind (new_time (codes "x-ms-file-creation-time") headers) _ (λ created. behind (new_time (codes "x-ms-file-last-write-time") headers) _ (λ written. behind (meta_of headers) _ (λ meta. refl)))))
 
 set_directory_metadata_rests : (at : Target) (headers : List Header) → IsRest (set_directory_metadata at headers)
 unfolding set_directory_metadata
-set_directory_metadata_rests at headers = behind _ _ (λ _. refl)
+set_directory_metadata_rests at headers = behind (meta_of headers) _ (λ meta. refl)
 
-delete_directory_rests : (at : Target) → IsRest (delete_directory at)
+delete_directory_rests : (target : Target) → IsRest (delete_directory target)
 unfolding delete_directory
-delete_directory_rests at = behind _ _ (λ _. refl)
+delete_directory_rests target = behind (below_root target) _ (λ at. refl)
 
 force_close_handles_rests : (at : Target) (headers : List Header) → IsRest (force_close_handles at headers)
 unfolding force_close_handles
-force_close_handles_rests at headers = behind _ _ (λ _. behind _ _ (λ _. refl))
+force_close_handles_rests at headers = behind (handle_of headers) _ (λ handle. behind (recursive_of headers) _ (λ recursive. refl))
 
 list_directory_rests : (at : Target) (a : Asked) → IsRest (list_directory at a)
 unfolding list_directory
-list_directory_rests at a = behind _ _ (λ _. refl)
+list_directory_rests at a = behind (names_marker a.marker) _ (λ marker. refl)
 
 list_handles_rests : (at : Target) (a : Asked) (headers : List Header) → IsRest (list_handles at a headers)
 unfolding list_handles
-list_handles_rests at a headers = behind _ _ (λ _. behind _ _ (λ _. refl))
+list_handles_rests at a headers = behind (handles_marker a.marker) _ (λ marker. behind (recursive_of headers) _ (λ recursive. refl))
 
 new_file_rests : (at : Target) (length : ℕ) (headers : List Header) → IsRest (new_file at length headers)
 unfolding new_file
-new_file_rests at length headers = behind _ _ (λ _. behind _ _ (λ _. refl))
+new_file_rests at length headers = behind (content_of headers) _ (λ content. behind (new_facts headers) _ (λ facts. refl))
 
-get_file_rests : (at : Target) (snap : Option ℕ) (headers : List Header) → IsRest (get_file at snap headers)
+get_file_rests : (target : Target) (snap : Option ℕ) (headers : List Header) → IsRest (get_file target snap headers)
 unfolding get_file
-get_file_rests at snap headers = behind _ _ (λ _. behind _ _ (λ _. behind _ _ (λ _. refl)))
+get_file_rests target snap headers = behind (below_root target) _ (λ at. behind (span_of headers) _ (λ span. behind (scope_of snap headers) _ (λ scope. refl)))
 
-get_file_properties_rests : (at : Target) (snap : Option ℕ) (headers : List Header) → IsRest (get_file_properties at snap headers)
+get_file_properties_rests : (target : Target) (snap : Option ℕ) (headers : List Header) → IsRest (get_file_properties target snap headers)
 unfolding get_file_properties
-get_file_properties_rests at snap headers = behind _ _ (λ _. behind _ _ (λ _. refl))
+get_file_properties_rests target snap headers = behind (below_root target) _ (λ at. behind (scope_of snap headers) _ (λ scope. refl))
 
 set_properties_rests : (at : Target) (length : Option ℕ) (headers : List Header) → IsRest (set_properties at length headers)
 unfolding set_properties
-set_properties_rests at length headers = behind _ _ (λ _. behind _ _ (λ _. refl))
+set_properties_rests at length headers = behind (content_of headers) _ (λ content. behind (set_facts headers) _ (λ facts. refl))
 
-get_file_metadata_rests : (at : Target) (snap : Option ℕ) (headers : List Header) → IsRest (get_file_metadata at snap headers)
+get_file_metadata_rests : (target : Target) (snap : Option ℕ) (headers : List Header) → IsRest (get_file_metadata target snap headers)
 unfolding get_file_metadata
-get_file_metadata_rests at snap headers = behind _ _ (λ _. behind _ _ (λ _. refl))
+get_file_metadata_rests target snap headers = behind (below_root target) _ (λ at. behind (scope_of snap headers) _ (λ scope. refl))
 
-set_file_metadata_rests : (at : Target) (headers : List Header) → IsRest (set_file_metadata at headers)
+set_file_metadata_rests : (target : Target) (headers : List Header) → IsRest (set_file_metadata target headers)
 unfolding set_file_metadata
-set_file_metadata_rests at headers = behind _ _ (λ _. behind _ _ (λ _. behind _ _ (λ _. refl)))
+set_file_metadata_rests target headers = behind (below_root target) _ (λ at. behind (meta_of headers) _ (λ meta. behind (lease_of headers) _ (λ lease. refl)))
 
 update_with_rests : (at : Target) (interval : Interval) (digest : Option (List ℕ)) (headers : List Header) (body : List ℕ) → IsRest (update_with at interval digest headers body)
 unfolding update_with
-update_with_rests at interval digest headers body = behind _ _ (λ _. behind _ _ (λ _. refl))
+update_with_rests at interval digest headers body = behind (lease_of headers) _ (λ lease. behind (update_of interval digest body) _ (λ update. refl))
 
-clear_range_rests : (at : Target) (headers : List Header) → IsRest (clear_range at headers)
+clear_range_rests : (target : Target) (headers : List Header) → IsRest (clear_range target headers)
 unfolding clear_range
-clear_range_rests at headers = behind _ _ (λ _. behind _ _ (λ _. behind _ _ (λ _. behind _ _ (λ _. refl))))
+clear_range_rests target headers = behind (below_root target) _ (λ at. behind (needed_word (codes "x-ms-write") (codes "clear") headers) _ (λ _. behind (interval_of OFFSET_LIMIT headers) _ (λ range. behind (lease_of headers) _ (λ lease. refl))))
 
-list_ranges_rests : (at : Target) (snap : Option ℕ) (headers : List Header) → IsRest (list_ranges at snap headers)
+list_ranges_rests : (target : Target) (snap : Option ℕ) (headers : List Header) → IsRest (list_ranges target snap headers)
 unfolding list_ranges
-list_ranges_rests at snap headers = behind _ _ (λ _. behind _ _ (λ _. behind _ _ (λ _. refl)))
+list_ranges_rests target snap headers = behind (below_root target) _ (λ at. behind (span_of headers) _ (λ span. behind (scope_of snap headers) _ (λ scope. refl)))
 
-delete_file_rests : (at : Target) (headers : List Header) → IsRest (delete_file at headers)
+delete_file_rests : (target : Target) (headers : List Header) → IsRest (delete_file target headers)
 unfolding delete_file
-delete_file_rests at headers = behind _ _ (λ _. behind _ _ (λ _. refl))
+delete_file_rests target headers = behind (below_root target) _ (λ at. behind (lease_of headers) _ (λ lease. refl))
 
-lease_file_rests : (at : Target) (headers : List Header) → IsRest (lease_file at headers)
+lease_file_rests : (target : Target) (headers : List Header) → IsRest (lease_file target headers)
 unfolding lease_file
-lease_file_rests at headers = behind _ _ (λ _. behind _ _ (λ _. refl))
+lease_file_rests target headers = behind (below_root target) _ (λ at. behind (lease_action headers) _ (λ action. refl))
 
 delete_snapshot_rests : (share : List ℕ) (snap : Option ℕ) → IsRest (delete_snapshot share snap)
 unfolding delete_snapshot
@@ -145,19 +161,19 @@ delete_snapshot_rests share (Some moment) = refl
 
 create_file_rests : (at : Target) (headers : List Header) → IsRest (create_file at headers)
 unfolding create_file
-create_file_rests target headers = behind _ _ (λ at. behind _ _ (λ _. behind _ _ (λ length. new_file_rests at length headers)))
+create_file_rests target headers = behind (below_root target) _ (λ at. behind (needed_word (codes "x-ms-type") (codes "file") headers) _ (λ _. behind (new_length headers) _ (λ length. new_file_rests at length headers)))
 
 set_file_properties_rests : (at : Target) (headers : List Header) → IsRest (set_file_properties at headers)
 unfolding set_file_properties
-set_file_properties_rests target headers = behind _ _ (λ at. behind _ _ (λ length. set_properties_rests at length headers))
+set_file_properties_rests target headers = behind (below_root target) _ (λ at. behind (set_length headers) _ (λ length. set_properties_rests at length headers))
 
 update_at_rests : (at : Target) (headers : List Header) (body : List ℕ) → IsRest (update_at at headers body)
 unfolding update_at
-update_at_rests at headers body = behind _ _ (λ interval. behind _ _ (λ digest. update_with_rests at interval digest headers body))
+update_at_rests at headers body = behind (interval_of PIECE_LIMIT headers) _ (λ interval. behind (digest_of (codes "content-md5") headers) _ (λ digest. update_with_rests at interval digest headers body))
 
 update_range_rests : (at : Target) (headers : List Header) (body : List ℕ) → IsRest (update_range at headers body)
 unfolding update_range
-update_range_rests target headers body = behind _ _ (λ at. behind _ _ (λ _. update_at_rests at headers body))
+update_range_rests target headers body = behind (below_root target) _ (λ at. behind (needed_word (codes "x-ms-write") (codes "update") headers) _ (λ _. update_at_rests at headers body))
 
 plain_rests : (named : Row) (at : Target) (snap : Option ℕ) (headers : List Header) → IsRest (plain_call named at snap headers)
 unfolding plain_call directory_call file_call
@@ -268,7 +284,7 @@ kept (Err refusal) r h = tt
 
 without_body_rests : (named : Row) (place : Place) (a : Asked) (headers : List Header) (body : List ℕ) → IsRest (call_without_body named place a headers body)
 unfolding call_without_body
-without_body_rests named place a headers body = kept (bodiless_call named place a headers) _ (bodiless_rests named place a headers)
+without_body_rests named place a headers body = kept (bodiless_call named place a headers) (no_body body) (bodiless_rests named place a headers)
 
 call_inside_rests : (named : Row) (at : Target) (a : Asked) (headers : List Header) (body : List ℕ) → IsRest (call_inside named at a headers body)
 unfolding call_inside
@@ -309,7 +325,7 @@ by_row_rests named (Inside at) a headers body = call_inside_rests named at a hea
 
 reading_rests : (r : Request) → IsRest (reading r)
 unfolding reading
-reading_rests r = behind _ _ (λ verb. behind _ _ (λ _. behind _ _ (λ place. behind _ _ (λ a. behind _ _ (λ named. by_row_rests named place a r.head.headers r.body)))))
+reading_rests r = behind (verb_of r.head.method) _ (λ verb. behind (version_of r.head.headers) _ (λ _. behind (place_of (before_first is_question r.head.target)) _ (λ place. behind (asked_of (parameters (after_first is_question r.head.target))) _ (λ a. behind (row_for (key_of verb place a r.head.headers)) _ (λ named. by_row_rests named place a r.head.headers r.body)))))
 
 -- the call that a request spells is a REST call
 pub spells_rest_call : (r : Request) (call : Call) → reading r ≡ Ok call → door_of call ≡ Rest

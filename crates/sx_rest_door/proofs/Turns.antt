@@ -100,11 +100,11 @@ pub record Going {C R : Type 0} (ticks : C → ℕ → C → Type 0) (draws : R 
 module _ {C R : Type 0} (ticks : C → ℕ → C → Type 0) (draws : R → ℕ → R → Type 0) (account : Account) where
   -- no request yet
   unfoldable pub going_none : (stream : Option (List ℕ)) (clock : C) (s : DoorState R) (given : ℕ) → s.tally ≡ no_tally → given ≡ 0 → Going ticks draws account stream stream clock clock s s given
-  going_none stream clock s given none zero = record {
+  going_none stream clock s given none start = record {
     turns = [];
     requests = tt;
     bytes = consumes_none stream;
-    given_is = zero;
+    given_is = start;
     calls = asks_none s.pass;
     history = none_keeps s.pass;
     tallied = none;

@@ -29,11 +29,18 @@ fn says_close(header: &Header) -> bool
     header.name.bytes() == b"connection".as_slice() && has_close(header.value.as_slice())
 }
 
+/// Whether one of the headers says that the connection closes.
+fn any_says_close(headers: &[Header]) -> bool
+    ensures { result ≡ list_any says_close headers.now }
+{
+    headers.iter().any(|h| says_close(h))
+}
+
 /// Whether the connection closes behind the answer to a request with this head.
 fn closes(head: &Head) -> bool
     ensures { result ≡ closes head.now }
 {
-    !head.v11 || head.headers.as_slice().iter().any(|h| says_close(h))
+    !head.v11 || any_says_close(head.headers.as_slice())
 }
 
 /// How the answer to a request with this head is printed.

@@ -1,11 +1,13 @@
 //! A connection from its first request to its end.
-ghost use Rattle.std.specs.Prelude.{◌≡◌, ◌≤◌, ◌++◌, [], false, length};
+ghost use Rattle.std.specs.Prelude.{◌≡◌, ◌+◌, ◌≤◌, ◌<◌, ◌^◌, ◌++◌, [], true, false, length};
 ghost use mathlib.Core.List.{IsPrefix};
 ghost use Rattle.sx_base.specs.Clock.{greatest_moment};
 ghost use Rattle.sx_base.specs.Sink.{Prints};
 ghost use Rattle.sx_book.specs.OneHistory.{history_of};
 ghost use Rattle.sx_book.specs.Passes.{KeepsSessions};
-ghost use Rattle.sx_rest_door.specs.Asking.{IsServed, KeepsHistory, own_places_behind};
+ghost use Rattle.sx_reply.specs.PrintedReply.{is_printed, printed};
+ghost use Rattle.sx_rest_door.specs.Asking.{IsServed, IsTurn, KeepsHistory, Replies, end_at, end_behind};
+ghost use Rattle.sx_rest_door.specs.Asking.{own_places_behind};
 ghost use Rattle.sx_rest_door.specs.Conversation.{Conversation, ServesRequests, Talk, no_tally, refusal_text};
 ghost use Rattle.sx_rest_door.specs.Conversation.{report_of, taken_at};
 
@@ -17,9 +19,9 @@ use std::alloc::Global;
 use std::sync::Wait;
 use sx_base::{Clock, Failed, Link, Random, Sink};
 use sx_book::{ConnEnd, ConnReport, Office, Pass};
-use sx_http::Reader;
+use sx_http::{Reader, Request};
 use sx_key::Account;
-use sx_reply::{Said, Shape, print};
+use sx_reply::{Answer, Said, Shape, print};
 
 /// Writes the answer to a request that can't be read, behind which the connection closes.
 fn refuse<K: Sink>(sink: &mut K, now: u64, why: Unreadable) -> Result<(), Failed>
@@ -32,6 +34,114 @@ fn refuse<K: Sink>(sink: &mut K, now: u64, why: Unreadable) -> Result<(), Failed
         close: true,
     };
     print(sink, &unplaced(now, Said::Wire(why.text)), shape)
+}
+
+/// Prints the answer to a request.
+fn print_answer<K: Sink>(sink: &mut K, answer: Answer, shape: Shape) -> Result<(), Failed>
+    requires { is_printed answer.said ≡ true }
+    ensures { Prints K.wrote K.write_count K.puts sink.old sink.new (printed answer shape) result }
+{
+    print(sink, &answer, shape)
+}
+
+/// Answers a request at a moment, and tells whether the connection closes behind the answer.
+fn reply<W: Wait, K: Sink, R: Random>(
+    alloc: Global,
+    rt: &W,
+    office: &Office,
+    pass: &mut Pass,
+    account: &Account,
+    random: &mut R,
+    tally: &mut Tally,
+    sink: &mut K,
+    now: u64,
+    request: Request,
+) -> Result<bool, Failed>
+    requires own { pass.old.office ≡ office.now }
+    requires clock { now ≤ greatest_moment }
+    requires asked { tally.old.asked + 1 < 2 ^ 64 }
+    ensures keeps { KeepsSessions pass.old pass.new }
+    ensures replies { Replies K.wrote K.write_count K.puts R.draws account.now now request
+        (record { pass = pass.old; random = random.old; tally = tally.old })
+        (record { pass = pass.new; random = random.new; tally = tally.new }) sink.old sink.new result }
+{
+    let shape = shape_of(&request.head);
+    let answer = answer_request(alloc, rt, office, pass, account, random, tally, now, request);
+    match print_answer(sink, answer, shape) {
+        Ok(()) => Ok(shape.close),
+        Err(failed) => Err(failed),
+    }
+}
+
+/// How a connection goes on behind an answer: none where it stays open.
+fn end_behind(printed: Result<bool, Failed>) -> Option<ConnEnd>
+    ensures { result ≡ end_behind printed }
+{
+    match printed {
+        Ok(false) => None,
+        Ok(true) => Some(ConnEnd::Closed { at: None }),
+        Err(_) => Some(ConnEnd::WriteFault),
+    }
+}
+
+/// How a connection ends behind the answer to a request that can't be read, which begins at this byte.
+fn end_at(printed: Result<(), Failed>, at: u64) -> ConnEnd
+    ensures { result ≡ end_at printed at }
+{
+    match printed {
+        Ok(()) => ConnEnd::Closed { at: Some(at) },
+        Err(_) => ConnEnd::WriteFault,
+    }
+}
+
+/// Answers what stands next on a link, and says how the connection ended, where it did.
+fn serve_next<W: Wait, L: Link, C: Clock, R: Random>(
+    alloc: Global,
+    rt: &W,
+    office: &Office,
+    pass: &mut Pass,
+    link: &mut L,
+    clock: &mut C,
+    random: &mut R,
+    account: &Account,
+    reader: &mut Reader,
+    tally: &mut Tally,
+) -> Option<ConnEnd>
+    requires own { pass.old.office ≡ office.now }
+    requires reader { reader.old.ended ≡ false }
+    requires asked { tally.old.asked ≤ reader.old.given }
+    ensures turn { IsTurn result C.ticks R.draws account.now (L.wrote link.old) (L.wrote link.new)
+        (record {
+          reader = reader.old;
+          clock = clock.old;
+          door = record { pass = pass.old; random = random.old; tally = tally.old };
+          sides = record { left = L.left link.old; reads = L.read_count link.old; writes = L.write_count link.old };
+        })
+        (record {
+          reader = reader.new;
+          clock = clock.new;
+          door = record { pass = pass.new; random = random.new; tally = tally.new };
+          sides = record { left = L.left link.new; reads = L.read_count link.new; writes = L.write_count link.new };
+        }) }
+    ensures keeps { KeepsSessions pass.old pass.new }
+    ensures within { reader.new.given + length reader.new.held ≤ reader.new.budget }
+    ensures calls { L.calls link.old link.new }
+{
+    match hear(reader, link) {
+        Heard::Asks(request) => {
+            // Each call that was asked took a byte or more, so that their count fits as the bytes' does.
+            let _taken = reader.taken();
+            let now = clock.now();
+            end_behind(reply(
+                alloc, rt, office, pass, account, random, tally, link, now, request,
+            ))
+        }
+        Heard::Refuses(why) => {
+            let now = clock.now();
+            Some(end_at(refuse(link, now, why), why.at))
+        }
+        Heard::Ends(end) => Some(end),
+    }
 }
 
 /// Answers the requests of a link until no more are given or one closes it, and says how they ended.
@@ -63,30 +173,11 @@ fn serve_requests<W: Wait, L: Link, C: Clock, R: Random>(
     ensures calls { L.calls link.old link.new }
 {
     loop {
-        match hear(reader, link) {
-            Heard::Asks(request) => {
-                // Each call that was asked took a byte or more, so that their count fits as the bytes' does.
-                let now = clock.now();
-                let shape = shape_of(&request.head);
-                let answer = answer_request(
-                    alloc, rt, office, pass, account, random, tally, now, request,
-                );
-                match print(link, &answer, shape) {
-                    Ok(()) => {}
-                    Err(_) => return ConnEnd::WriteFault,
-                }
-                if shape.close {
-                    return ConnEnd::Closed { at: None };
-                }
-            }
-            Heard::Refuses(why) => {
-                let now = clock.now();
-                return match refuse(link, now, why) {
-                    Ok(()) => ConnEnd::Closed { at: Some(why.at) },
-                    Err(_) => ConnEnd::WriteFault,
-                };
-            }
-            Heard::Ends(end) => return end,
+        let turn = serve_next(
+            alloc, rt, office, pass, link, clock, random, account, reader, tally,
+        );
+        if let Some(end) = turn {
+            return end;
         }
     }
 }

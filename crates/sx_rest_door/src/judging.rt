@@ -1,8 +1,5 @@
 //! The call of a request, or why it has none.
-ghost use Rattle.std.specs.Prelude.{◌≡◌, MatchOption};
-ghost use Rattle.sx_key.specs.declared.fault.AuthFault.TheVariants.{NoMemory};
-ghost use Rattle.sx_rest_door.specs.Asking.{IsJudged};
-ghost use Rattle.sx_rest_door.specs.Conversation.{fault_of};
+ghost use Rattle.sx_rest_door.specs.Asking.{IsJudged, TellsFault};
 
 use std::alloc::Global;
 use sx_call::{Call, Syntax};
@@ -22,28 +19,20 @@ pub enum Uncalled {
     NotRead,
 }
 
-/// What is told of a fault, or none for want of memory.
-fn auth_text(fault: AuthFault) -> Option<AuthText>
-    ensures { MatchOption result (fault ≡ NoMemory) (λ text. fault ≡ fault_of text) }
+/// Why a request with this fault of its signature has no call.
+fn not_signed(fault: AuthFault) -> Uncalled
+    ensures { TellsFault fault result }
 {
     match fault {
-        AuthFault::NoHeader => Some(AuthText::NoHeader),
-        AuthFault::BadHeader => Some(AuthText::BadHeader),
-        AuthFault::OtherAccount => Some(AuthText::OtherAccount),
-        AuthFault::NoDate => Some(AuthText::NoDate),
-        AuthFault::BadDate => Some(AuthText::BadDate),
-        AuthFault::TooOld { dated, now } => Some(AuthText::TooOld { dated, now }),
-        AuthFault::TooNew { dated, now } => Some(AuthText::TooNew { dated, now }),
-        AuthFault::Differs => Some(AuthText::Differs),
-        AuthFault::NoMemory => None,
-    }
-}
-
-/// Why a request with this fault has no call.
-fn not_signed(fault: AuthFault) -> Uncalled {
-    match auth_text(fault) {
-        Some(text) => Uncalled::NotSigned(text),
-        None => Uncalled::NotRead,
+        AuthFault::NoHeader => Uncalled::NotSigned(AuthText::NoHeader),
+        AuthFault::BadHeader => Uncalled::NotSigned(AuthText::BadHeader),
+        AuthFault::OtherAccount => Uncalled::NotSigned(AuthText::OtherAccount),
+        AuthFault::NoDate => Uncalled::NotSigned(AuthText::NoDate),
+        AuthFault::BadDate => Uncalled::NotSigned(AuthText::BadDate),
+        AuthFault::TooOld { dated, now } => Uncalled::NotSigned(AuthText::TooOld { dated, now }),
+        AuthFault::TooNew { dated, now } => Uncalled::NotSigned(AuthText::TooNew { dated, now }),
+        AuthFault::Differs => Uncalled::NotSigned(AuthText::Differs),
+        AuthFault::NoMemory => Uncalled::NotRead,
     }
 }
 
