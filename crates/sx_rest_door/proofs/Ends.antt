@@ -1,5 +1,5 @@
 -- How a connection's requests go on and end.
-use Rattle.std.proofs.Common.{ℕ, ◌+◌, ◌-◌, ◌≤◌, ◌≡◌, true, false, List, [], ◌∷◌, ◌++◌, length, map, Option, Some, None, refl, sym, ap, ◌∙◌, subst, arith}
+use Rattle.std.proofs.Common.{ℕ, ◌+◌, ◌-◌, ◌≤◌, ◌≡◌, ◌⊎◌, ⊎_elim, true, false, List, [], ◌∷◌, ◌++◌, length, map, Option, Some, None, refl, sym, ap, ◌∙◌, subst, arith}
 use Rattle.std.specs.List.{AllByRecursion}
 use Rattle.std.proofs.lemmas.List.{append-nil}
 use Rattle.std.specs.Io.KnownBytes.{Consumes, Keeps, prepend_known}
@@ -7,6 +7,7 @@ use Rattle.sx_base.specs.Causes.{Rose}
 use Rattle.sx_base.specs.Clock.{StepsThrough}
 use Rattle.sx_base.specs.Sides.{Sides}
 use Rattle.sx_base.proofs.Steps.{steps_append}
+use Rattle.sx_base.proofs.Streams.{keeps_same}
 use Rattle.sx_http.specs.Readers.{Requests}
 use Rattle.sx_http.specs.RequestStream.{IsRequest, Because, Reason, GivesNone, stream, taken_after}
 use Rattle.sx_http.specs.declared.heads.Request.{Request}
@@ -21,7 +22,7 @@ use Rattle.sx_book.specs.declared.report.ConnEnd.{ConnEnd}
 use Rattle.sx_book.specs.declared.report.ConnEnd.TheVariants as finish
 use Rattle.sx_reply.specs.PrintedReply.{printed}
 use Rattle.sx_reply.specs.declared.answer.Answer.{Answer}
-use Rattle.sx_rest_door.specs.Asking.{DoorState, IsAnswered, IsServed, HearsNone, HearsRefused, HearsEnd}
+use Rattle.sx_rest_door.specs.Asking.{DoorState, TurnState, Answers, RefusesOne, IsAnswered, IsServed, IsTurn, HearsNone, HearsRefused, HearsEnd}
 use Rattle.sx_rest_door.specs.Closing.{closes, shape_of}
 use Rattle.sx_rest_door.specs.Conversation.{AnsweredRequest, ComesTo, request_bytes, RefusedRequest, Talk, Follows, IsRefused, IsEnd, StaysOpen, ClosesLast, IsClosedBy, KeepsCounts, HasText, HasPrefix, HasBegun, BreaksAtAnswer, HasWritten, ServesRequests, answer_of, answer_text, answers_to, refusal_text, moment_behind, unreadable_of, no_tally, taken_at}
 use Rattle.sx_rest_door.specs.declared.hearing.Unreadable.{Unreadable}
@@ -147,6 +148,7 @@ module _ {C R : Type 0} (ticks : C → ℕ → C → Type 0) (draws : R → ℕ 
         refl,
         record {
           calls = going.calls;
+          history = going.history;
           moments = steps_append ticks c0 c1 c2 (map (λ (u : AnsweredRequest). u.moment) going.turns) (moment_behind refused) going.moments ticked;
           words = going.words;
           tallied = going.tallied;
@@ -231,3 +233,85 @@ module _ {C R : Type 0} (ticks : C → ℕ → C → Type 0) (draws : R → ℕ 
         (run.1, text_begun wrote at_answer wrote' said (refusal_text (record { why = why; moment = moment })) (text_kept wrote at_request at_answer said run.2 keep) text)
         (rose, refuses why moment finish.WriteFault run.0.turns old.reads reads l hears limit)
         tt (count ∙ hears.none.count) (g.taken ∙ refused_taken hears.answer why r hears.told)
+
+-- ---- turn by turn
+module _ {C R : Type 0} (ticks : C → ℕ → C → Type 0) (draws : R → ℕ → R → Type 0) (account : Account) (budget : ℕ) (at_first at_turn at_last : List ℕ → Type 0) (first : Sides) (s0 : Option (List ℕ)) (c0 : C) (a : DoorState R) (old new : TurnState C R) where
+  -- the requests before a turn
+  abbrev pub RunsTo : (List ℕ → Type 0) → TurnState C R → Type 0
+  RunsTo written s = Run ticks draws account s0 (stream s.reader s.sides.left) c0 s.clock a s.door s.reader.given at_first written
+
+  -- a turn behind which the connection goes on
+  pub run_turn : RunsTo at_turn old → IsTurn None ticks draws account at_turn at_last old new → RunsTo at_last new
+  run_turn run turn =
+      let t = turn.0 in
+      run_more ticks draws account s0 (stream old.reader old.sides.left) (stream new.reader new.sides.left) c0 old.clock new.clock a old.door new.door old.reader.given new.reader.given at_first at_turn at_turn at_last
+      t.gives.text t.request t.moment t.answer run t.gives.is t.gives.bytes t.gives.given t.ticked t.answered (λ m h. h) turn.2 turn.1
+
+  -- what is known at the turn
+  pub record Stands : Type 0 where
+    pub same : s0 ≡ first.left
+    pub limit : old.reader.budget ≡ budget
+    pub reads : old.sides.reads ≡ first.reads
+    pub writes : old.sides.writes ≡ first.writes
+    pub within : new.reader.given + length new.reader.held ≤ new.reader.budget
+
+  -- the requests, and how they ended
+  abbrev pub ServedTo : TurnState C R → ConnEnd → Type 0
+  ServedTo s end = Served ticks draws account budget at_first at_last first s.sides c0 s.clock a s.door end s.reader.taken
+
+  -- where a request closed the connection
+  closed_turn : RunsTo at_turn old → Stands → (t : Answers ticks draws account old new) → closes t.request.head ≡ true → HasText at_turn at_last (printed t.answer (shape_of t.request.head)) → new.sides.writes ≡ old.sides.writes → ServedTo new (finish.Closed None)
+  closed_turn run s t closed text writes =
+      let w = run_closes ticks draws account s0 (stream old.reader old.sides.left) (stream new.reader new.sides.left) c0 old.clock new.clock a old.door new.door old.reader.given new.reader.given at_first at_turn at_turn at_last
+      t.gives.text t.request t.moment t.answer run t.gives.is t.gives.bytes t.gives.given t.ticked t.answered (λ m h. h) text closed in
+      let said : List ℕ = answers_to a.pass.limit w.0.turns in
+      served_by ticks draws account budget at_first at_last first new.sides c0 new.clock a new.door (finish.Closed None) None s0 (stream new.reader new.sides.left) new.clock new.reader.held new.reader.given new.reader.taken w.0
+      s.same refl (omega (arith, s.within, s.limit, t.gives.budget)) (keeps_same (stream new.reader new.sides.left))
+      (subst (HasText at_first at_last) (sym (append-nil said)) w.2) refl w.1 (t.reads ∙ s.reads, writes ∙ s.writes) t.gives.taken
+
+  -- where an answer wasn't written whole
+  broken_turn : RunsTo at_turn old → Stands → (t : Answers ticks draws account old new) → HasPrefix at_turn at_last (printed t.answer (shape_of t.request.head)) → Rose old.sides.writes new.sides.writes → ServedTo new finish.WriteFault
+  broken_turn run s t text rose =
+      let w = run_breaks ticks draws account s0 (stream old.reader old.sides.left) (stream new.reader new.sides.left) c0 old.clock new.clock a old.door new.door old.reader.given new.reader.given at_first at_turn at_turn at_last
+      t.gives.text t.request t.moment t.answer run t.gives.is t.gives.bytes t.gives.given t.ticked t.answered (λ m h. h) text in
+      served_by ticks draws account budget at_first at_last first new.sides c0 new.clock a new.door finish.WriteFault None s0 (stream new.reader new.sides.left) new.clock new.reader.held new.reader.given new.reader.taken w.0
+      s.same refl (omega (arith, s.within, s.limit, t.gives.budget)) (keeps_same (stream new.reader new.sides.left))
+      w.1 (subst (λ (n : ℕ). Rose n new.sides.writes) s.writes rose, tt) tt (t.reads ∙ s.reads) t.gives.taken
+
+  -- the same door, seen from the turn's end
+  door_kept : (end : ConnEnd) (taken : ℕ) (clock : C) → new.door ≡ old.door → Served ticks draws account budget at_first at_last first new.sides c0 clock a old.door end taken → Served ticks draws account budget at_first at_last first new.sides c0 clock a new.door end taken
+  door_kept end taken clock same h = subst (λ (d : DoorState R). Served ticks draws account budget at_first at_last first new.sides c0 clock a d end taken) (sym same) h
+
+  heard_first : (why : Unreadable) → Stands → HearsRefused why old.reader new.reader old.sides.left new.sides.left old.sides.reads new.sides.reads → HearsRefused why old.reader new.reader old.sides.left new.sides.left first.reads new.sides.reads
+  heard_first why s hears = subst (λ (n : ℕ). HearsRefused why old.reader new.reader old.sides.left new.sides.left n new.sides.reads) s.reads hears
+
+  -- where nothing more was read
+  still_turn : (end : ConnEnd) → RunsTo at_turn old → Stands → HearsEnd end old.reader new.reader old.sides.left new.sides.left old.sides.reads new.sides.reads → new.clock ≡ old.clock → new.door ≡ old.door → new.sides.writes ≡ old.sides.writes → ((m : List ℕ) → at_turn m → at_last m) → ServedTo new end
+  still_turn end run s hears clock door writes keep =
+      let heard = subst (λ (n : ℕ). HearsEnd end old.reader new.reader old.sides.left new.sides.left n new.sides.reads) s.reads hears in
+      let done : Served ticks draws account budget at_first at_last first new.sides c0 old.clock a old.door end new.reader.taken =
+      ended_by ticks draws account budget at_first at_last first new.sides c0 old.clock a old.door at_turn s0 old.reader new.reader old.sides.left end run s.same heard s.limit s.within keep (writes ∙ s.writes) in
+      door_kept end new.reader.taken new.clock door (subst (λ (c : C). Served ticks draws account budget at_first at_last first new.sides c0 c a old.door end new.reader.taken) (sym clock) done)
+
+  -- a turn by which the connection ended
+  pub run_ended : (end : ConnEnd) → RunsTo at_turn old → Stands → IsTurn (Some end) ticks draws account at_turn at_last old new → ServedTo new end
+  run_ended (finish.Closed None) run s turn = closed_turn run s turn.0 turn.1 turn.2 turn.3
+  run_ended (finish.Closed (Some at)) run s turn =
+      let t = turn.0.0 in
+      subst (λ (n : ℕ). ServedTo new (finish.Closed (Some n))) (sym turn.1)
+      (door_kept (finish.Closed (Some t.refused.why.at)) new.reader.taken new.clock turn.0.1
+      (refused_by ticks draws account budget at_first at_last first new.sides c0 new.clock a old.door at_turn s0 old.reader new.reader old.sides.left t.refused.why t.refused.moment old.clock at_turn new.sides.left new.sides.reads run s.same
+      (heard_first t.refused.why s t.hears) refl refl s.limit s.within t.ticked (λ m h. h) turn.2 (turn.3 ∙ s.writes)))
+  run_ended finish.WriteFault run s turn =
+      ⊎_elim (λ (x : (t : Answers ticks draws account old new) × HasPrefix at_turn at_last (printed t.answer (shape_of t.request.head))). broken_turn run s x.0 x.1 turn.0)
+      (λ (x : (t : RefusesOne ticks old new) × HasPrefix at_turn at_last (refusal_text t.0.refused)).
+          door_kept finish.WriteFault new.reader.taken new.clock x.0.1
+          (refused_breaks ticks draws account budget at_first at_last first new.sides c0 new.clock a old.door at_turn s0 old.reader new.reader old.sides.left x.0.0.refused.why x.0.0.refused.moment old.clock at_turn new.sides.left new.sides.reads run s.same
+          (heard_first x.0.0.refused.why s x.0.0.hears) refl refl s.limit s.within x.0.0.ticked (λ m h. h) x.1 (subst (λ (n : ℕ). Rose n new.sides.writes) s.writes turn.0)))
+      turn.1
+  run_ended finish.Ended run s turn = still_turn finish.Ended run s turn.0 turn.1 turn.2 turn.3 turn.4
+  run_ended (finish.Cut n) run s turn = still_turn (finish.Cut n) run s turn.0 turn.1 turn.2 turn.3 turn.4
+  run_ended finish.Spent run s turn = still_turn finish.Spent run s turn.0 turn.1 turn.2 turn.3 turn.4
+  run_ended finish.ReadFault run s turn = still_turn finish.ReadFault run s turn.0 turn.1 turn.2 turn.3 turn.4
+  run_ended finish.NoMemory run s turn = still_turn finish.NoMemory run s turn.0 turn.1 turn.2 turn.3 turn.4
+  run_ended (finish.Full full) run s turn = absurd turn.0

@@ -229,6 +229,7 @@ pub record IsServed {C R : Type 0} (ticks : C → ℕ → C → Type 0) (draws :
     (clock clock' : C) (old new : DoorState R)
     : Type 0 where
   pub calls : Asks old.pass new.pass (calls_of old.pass.number talk.turns)
+  pub history : KeepsHistory old.pass new.pass
   pub moments : StepsThrough ticks clock (moments_in talk) clock'
   pub words : StepsThrough draws old.random (words_of talk.turns) new.random
   pub tallied : new.tally ≡ tally_after_all old.pass.limit no_tally talk.turns

@@ -168,7 +168,6 @@ fn serve_requests<W: Wait, L: Link, C: Clock, R: Random>(
         (record { left = L.left link.old; reads = L.read_count link.old; writes = L.write_count link.old })
         (record { left = L.left link.new; reads = L.read_count link.new; writes = L.write_count link.new })
         × (reader.new.taken ≡ taken_at result talk.given reader.old.budget) }
-    ensures history { KeepsHistory pass.old pass.new }
     ensures keeps { KeepsSessions pass.old pass.new }
     ensures calls { L.calls link.old link.new }
 {
