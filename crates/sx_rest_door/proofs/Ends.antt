@@ -88,9 +88,10 @@ module _ {C R : Type 0} (ticks : C → ℕ → C → Type 0) (draws : R → ℕ 
       let g = run.0 in
       let t : AnsweredRequest = record { bytes = bytes; request = r; moment = moment; outcome = last.outcome; told = last.told } in
       let said : List ℕ = answers_to a.pass.limit g.turns in
-      let begun = text_begun at_first at_answer at_last said (printed answer (shape_of r.head)) (text_kept at_first at_request at_answer said run.2 keep) text in
-      (going_more ticks draws account s0 s1 s2 c0 c1 c2 a b c k1 k2 bytes r moment answer g is taken count ticked last,
-        record { answered = g.turns; last = t; split = refl; open_until = run.1; begun = subst (HasBegun at_first at_last said) (said_so (same_limit g) last) begun })
+      let begun = text_begun at_first at_answer at_last said (printed answer (shape_of r.head)) (text_kept at_first at_request at_answer said run.2 keep) text in (
+        going_more ticks draws account s0 s1 s2 c0 c1 c2 a b c k1 k2 bytes r moment answer g is taken count ticked last,
+        record { answered = g.turns; last = t; split = refl; open_until = run.1; begun = subst (HasBegun at_first at_last said) (said_so (same_limit g) last) begun },
+      )
 
 -- what was said for requests
 abbrev pub talk_of : List AnsweredRequest → Option RefusedRequest → ℕ → ConnEnd → Option (List ℕ) → List ℕ → Talk
@@ -305,9 +306,9 @@ module _ {C R : Type 0} (ticks : C → ℕ → C → Type 0) (draws : R → ℕ 
   run_ended finish.WriteFault run s turn =
       ⊎_elim (λ (x : (t : Answers ticks draws account old new) × HasPrefix at_turn at_last (printed t.answer (shape_of t.request.head))). broken_turn run s x.0 x.1 turn.0)
       (λ (x : (t : RefusesOne ticks old new) × HasPrefix at_turn at_last (refusal_text t.0.refused)).
-          door_kept finish.WriteFault new.reader.taken new.clock x.0.1
-          (refused_breaks ticks draws account budget at_first at_last first new.sides c0 new.clock a old.door at_turn s0 old.reader new.reader old.sides.left x.0.0.refused.why x.0.0.refused.moment old.clock at_turn new.sides.left new.sides.reads run s.same
-          (heard_first x.0.0.refused.why s x.0.0.hears) refl refl s.limit s.within x.0.0.ticked (λ m h. h) x.1 (subst (λ (n : ℕ). Rose n new.sides.writes) s.writes turn.0)))
+      door_kept finish.WriteFault new.reader.taken new.clock x.0.1
+      (refused_breaks ticks draws account budget at_first at_last first new.sides c0 new.clock a old.door at_turn s0 old.reader new.reader old.sides.left x.0.0.refused.why x.0.0.refused.moment old.clock at_turn new.sides.left new.sides.reads run s.same
+      (heard_first x.0.0.refused.why s x.0.0.hears) refl refl s.limit s.within x.0.0.ticked (λ m h. h) x.1 (subst (λ (n : ℕ). Rose n new.sides.writes) s.writes turn.0)))
       turn.1
   run_ended finish.Ended run s turn = still_turn finish.Ended run s turn.0 turn.1 turn.2 turn.3 turn.4
   run_ended (finish.Cut n) run s turn = still_turn (finish.Cut n) run s turn.0 turn.1 turn.2 turn.3 turn.4

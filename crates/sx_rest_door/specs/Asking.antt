@@ -1,5 +1,6 @@
 -- What a connection hears and asks, request by request.
-use Rattle.std.specs.Prelude.{ℕ, ◌+◌, ◌≡◌, ◌⊎◌, Bool, true, false, [], None, IfOk, ◌∷◌, List, length, drop, Option, Some, Ok, Err, Result}
+use Rattle.std.specs.Prelude.{ℕ, ◌+◌, ◌≡◌, ◌⊎◌, Bool, true, false, [], ◌∷◌, List, length, drop, Option, Some, None}
+use Rattle.std.specs.Prelude.{Ok, Err, Result, IfOk}
 use Rattle.sx_base.specs.Causes.{Rose}
 use Rattle.sx_base.specs.Clock.{StepsThrough}
 use Rattle.sx_base.specs.Sides.{Sides}

@@ -66,7 +66,9 @@ fn reply<W: Wait, K: Sink, R: Random>(
         (record { pass = pass.new; random = random.new; tally = tally.new }) sink.old sink.new result }
 {
     let shape = shape_of(&request.head);
-    let answer = answer_request(alloc, rt, office, pass, account, random, tally, now, request);
+    let answer = answer_request(
+        alloc, rt, office, pass, account, random, tally, now, request,
+    );
     match print_answer(sink, answer, shape) {
         Ok(()) => Ok(shape.close),
         Err(failed) => Err(failed),

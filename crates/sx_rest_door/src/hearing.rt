@@ -46,7 +46,11 @@ fn long_text(what: Long, n: u64) -> WireText
 fn refusal(at: u64, text: WireText, head_only: bool) -> Heard
     ensures { result ≡ Refuses (record { at = at; text = text; head_only = head_only }) }
 {
-    Heard::Refuses(Unreadable { at, text, head_only })
+    Heard::Refuses(Unreadable {
+        at,
+        text,
+        head_only,
+    })
 }
 
 /// Takes what stands next off a connection.
