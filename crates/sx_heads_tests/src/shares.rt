@@ -30,7 +30,7 @@ const LISTINGS: [Row; 3] = [
     },
 ];
 
-const FACTS: [Row; 9] = [
+const FACTS: [Row; 12] = [
     // Create Share
     Row {
         asked: "PUT /data?restype=share HTTP/1.1\nX-Ms-Meta-B: 2\nx-ms-meta-a:  1\t\nx-ms-meta-A: 3\n\n",
@@ -83,11 +83,29 @@ const FACTS: [Row; 9] = [
             content-length: 0\r\n\
             \r\n",
     },
+    Row {
+        asked: "PUT /data?restype=share&comp=properties HTTP/1.1\nx-ms-share-quota: 5120\n\n",
+        body: "",
+        written: "PUT /data?restype=share&comp=properties HTTP/1.1\r\n\
+            x-ms-share-quota: 5120\r\n\
+            x-ms-version: 2020-10-02\r\n\
+            content-length: 0\r\n\
+            \r\n",
+    },
     // Get Share Metadata
     Row {
-        asked: "HEAD /data?restype=share&comp=METADATA HTTP/1.1\n\n",
+        asked: "HEAD /data?restype=share&comp=METADATA&sharesnapshot=2022-01-01T00:00:00.0000000Z HTTP/1.1\n\n",
+        body: "",
+        written: "GET /data?restype=share&comp=metadata&sharesnapshot=2022-01-01T00%3A00%3A00.0000000Z HTTP/1.1\r\n\
+            x-ms-version: 2020-10-02\r\n\
+            content-length: 0\r\n\
+            \r\n",
+    },
+    Row {
+        asked: "GET /data?restype=share&comp=metadata HTTP/1.1\nx-ms-lease-id: 00000000000000000000000000000001\n\n",
         body: "",
         written: "GET /data?restype=share&comp=metadata HTTP/1.1\r\n\
+            x-ms-lease-id: 00000000-0000-0000-0000-000000000001\r\n\
             x-ms-version: 2020-10-02\r\n\
             content-length: 0\r\n\
             \r\n",
@@ -101,6 +119,14 @@ const FACTS: [Row; 9] = [
         written: "PUT /data?restype=share&comp=metadata HTTP/1.1\r\n\
             x-ms-meta-_z9: a b\r\n\
             x-ms-lease-id: 00000000-0000-0000-0000-000000000001\r\n\
+            x-ms-version: 2020-10-02\r\n\
+            content-length: 0\r\n\
+            \r\n",
+    },
+    Row {
+        asked: "PUT /data?restype=share&comp=metadata HTTP/1.1\n\n",
+        body: "",
+        written: "PUT /data?restype=share&comp=metadata HTTP/1.1\r\n\
             x-ms-version: 2020-10-02\r\n\
             content-length: 0\r\n\
             \r\n",
@@ -126,7 +152,7 @@ const FACTS: [Row; 9] = [
     },
 ];
 
-const SNAPSHOTS_AND_LEASES: [Row; 7] = [
+const SNAPSHOTS_AND_LEASES: [Row; 8] = [
     // Delete Share of a snapshot
     Row {
         asked: "DELETE /data?restype=share&ShareSnapshot=2022-01-01T00%3a00%3a00.0000001Z HTTP/1.1\n\n",
@@ -142,6 +168,14 @@ const SNAPSHOTS_AND_LEASES: [Row; 7] = [
         body: "",
         written: "PUT /data?restype=share&comp=snapshot HTTP/1.1\r\n\
             x-ms-meta-a: 1\r\n\
+            x-ms-version: 2020-10-02\r\n\
+            content-length: 0\r\n\
+            \r\n",
+    },
+    Row {
+        asked: "PUT /data?restype=share&comp=snapshot HTTP/1.1\n\n",
+        body: "",
+        written: "PUT /data?restype=share&comp=snapshot HTTP/1.1\r\n\
             x-ms-version: 2020-10-02\r\n\
             content-length: 0\r\n\
             \r\n",
