@@ -38,13 +38,20 @@ enum Said {
 use Plain::{Close, Dispose, Lock, Read, Resize, Stat, Unlock};
 use Said::{List, On, Open, Quit, Write};
 
-/// Lines on open handles.
-const HANDLES: [(&[u8], Said); 27] = [
+/// Lines of a handle alone, lines that set a mark, and those that end the session.
+const ENDS: [(&[u8], Said); 8] = [
     (b"quit", Quit),
     (b"quit\r", Quit),
     (b"close 1", On(Close(1))),
     (b"close 1\r", On(Close(1))),
     (b"close 4294967295", On(Close(4_294_967_295))),
+    (b"stat 12", On(Stat(12))),
+    (b"dispose 1 on", On(Dispose(1, true))),
+    (b"dispose 1 off", On(Dispose(1, false))),
+];
+
+/// Lines that read, write and set a length.
+const TRANSFERS: [(&[u8], Said); 8] = [
     (b"read 1 0 1", On(Read(1, 0, 1))),
     (b"read 2 65536 1048576\r", On(Read(2, 65_536, 1_048_576))),
     (
@@ -59,6 +66,10 @@ const HANDLES: [(&[u8], Said); 27] = [
     ),
     (b"resize 1 0", On(Resize(1, 0))),
     (b"resize 1 4398046511104", On(Resize(1, 4_398_046_511_104))),
+];
+
+/// Lines that lock and unlock.
+const LOCKS: [(&[u8], Said); 5] = [
     (b"lock 1 0 1 shared", On(Lock(1, 0, 1, false))),
     (b"lock 7 10 5 exclusive", On(Lock(7, 10, 15, true))),
     (
@@ -75,19 +86,20 @@ const HANDLES: [(&[u8], Said); 27] = [
             true,
         )),
     ),
-    (b"stat 12", On(Stat(12))),
+];
+
+/// Lines that list.
+const LISTS: [(&[u8], Said); 6] = [
     (b"list 1 * 1", List(1, b"", 1)),
     (b"list 1 * 5000\r", List(1, b"", 5_000)),
     (b"list 1 ** 7", List(1, b"**", 7)),
     (b"list 1 %2a 7", List(1, b"*", 7)),
     (b"list 1 a%20b+%C3%a4/ 7", List(1, b"a b+\xc3\xa4/", 7)),
     (b"list 1 \xc3\xa4 7", List(1, b"\xc3\xa4", 7)),
-    (b"dispose 1 on", On(Dispose(1, true))),
-    (b"dispose 1 off", On(Dispose(1, false))),
 ];
 
-/// Lines that open.
-const OPENS: [(&[u8], Said); 13] = [
+/// Lines that open, with each of the rights.
+const RIGHTS: [(&[u8], Said); 9] = [
     (
         b"open data a.txt - r existing file",
         Open(&[b"a.txt"], "-", "r", How::Existing, false, false),
@@ -124,6 +136,10 @@ const OPENS: [(&[u8], Said); 13] = [
         b"open data a d d either file doc",
         Open(&[b"a"], "d", "d", How::Either, true, false),
     ),
+];
+
+/// Paths of opens.
+const PATHS: [(&[u8], Said); 4] = [
     (
         b"open data a/b%20c/d r r existing file",
         Open(&[b"a", b"b c", b"d"], "r", "r", How::Existing, false, false),
@@ -269,16 +285,38 @@ fn says(alloc: Global, line: &[u8], wanted: Said) -> bool {
     is_said(&call_of_line(alloc, line), wanted)
 }
 
-#[test]
-fn lines_on_handles_are_read(rt: HostRuntime) {
-    for (number, row) in HANDLES.iter().enumerate() {
-        assert!(rt; says(rt.alloc(), row.0, row.1), "at {number}");
+fn check(rt: &impl Abort, alloc: Global, rows: &[(&[u8], Said)]) {
+    for (number, row) in rows.iter().enumerate() {
+        assert!(rt; says(alloc, row.0, row.1), "at {number}");
     }
 }
 
 #[test]
-fn opens_are_read(rt: HostRuntime) {
-    for (number, row) in OPENS.iter().enumerate() {
-        assert!(rt; says(rt.alloc(), row.0, row.1), "at {number}");
-    }
+fn handles_are_read(rt: HostRuntime) {
+    check(&rt, rt.alloc(), &ENDS);
+}
+
+#[test]
+fn transfers_are_read(rt: HostRuntime) {
+    check(&rt, rt.alloc(), &TRANSFERS);
+}
+
+#[test]
+fn locks_are_read(rt: HostRuntime) {
+    check(&rt, rt.alloc(), &LOCKS);
+}
+
+#[test]
+fn lists_are_read(rt: HostRuntime) {
+    check(&rt, rt.alloc(), &LISTS);
+}
+
+#[test]
+fn rights_are_read(rt: HostRuntime) {
+    check(&rt, rt.alloc(), &RIGHTS);
+}
+
+#[test]
+fn paths_are_read(rt: HostRuntime) {
+    check(&rt, rt.alloc(), &PATHS);
 }
