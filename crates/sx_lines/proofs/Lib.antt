@@ -1,3 +1,10 @@
 pub mod DecimalDigits
 pub mod HexDigits
 pub mod Parts
+pub mod PathTexts
+pub mod SpelledBytes
+pub mod SpelledCalls
+pub mod SpelledNumbers
+pub mod SpelledOpens
+pub mod SpelledPaths
+pub mod SpelledWords

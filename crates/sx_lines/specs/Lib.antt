@@ -4,4 +4,5 @@ pub mod Lines
 pub mod Opens
 pub mod Printed
 pub mod Reading
+pub mod Spelled
 pub mod Words

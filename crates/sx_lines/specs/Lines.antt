@@ -1,6 +1,8 @@
 -- The grammar of a session's lines. Each name in a line's function is what is left of the line from that word on,
 -- behind the word before it.
 use Rattle.std.specs.Prelude.{ℕ, ◌-◌, bytes_eq, codes, List, length, if◌then◌else◌, Option, Some, None, Result, Ok, Err}
+use Rattle.sx_call.specs.declared.session_calls.SmbLock.{SmbLock as LockCall}
+use Rattle.sx_call.specs.declared.session_calls.SmbUnlock.{SmbUnlock as UnlockCall}
 use Rattle.sx_call.specs.declared.calls.Call.{Call}
 use Rattle.sx_call.specs.declared.calls.Call.TheVariants.{SmbClose, SmbRead, SmbWrite, SmbResize, SmbLock, SmbUnlock}
 use Rattle.sx_call.specs.declared.calls.Call.TheVariants.{SmbStat, SmbList, SmbDispose}
@@ -61,9 +63,9 @@ resize_call k =
     with_next (end_of (behind_next length)) (λ _.
     Ok (SmbResize (record { index = index; length = bytes })))))
 
--- `lock K AT COUNT shared|exclusive`
-unfoldable pub lock_call : List ℕ → Reading Call
-lock_call k =
+-- `K AT COUNT shared|exclusive`, behind `lock` and `unlock`
+unfoldable pub lock_in : List ℕ → Reading LockCall
+lock_in k =
     let at = behind_next k in
     let count = behind_next at in
     let kind = behind_next count in
@@ -72,20 +74,19 @@ lock_call k =
     with_next (judged count (byte_range_of from (next_word count))) (λ range.
     with_next (judged kind (choice_of (codes "exclusive") (codes "shared") (next_word kind))) (λ exclusive.
     with_next (end_of (behind_next kind)) (λ _.
-    Ok (SmbLock (record { index = index; range = range; exclusive = exclusive })))))))
+    Ok (record { index = index; range = range; exclusive = exclusive }))))))
+
+-- `lock K AT COUNT shared|exclusive`
+unfoldable pub lock_call : List ℕ → Reading Call
+lock_call k = with_next (lock_in k) (λ lock. Ok (SmbLock lock))
+
+-- the same lock, taken off
+abbrev pub unlocked : LockCall → UnlockCall
+unlocked lock = record { index = lock.index; range = lock.range; exclusive = lock.exclusive }
 
 -- `unlock K AT COUNT shared|exclusive`
 unfoldable pub unlock_call : List ℕ → Reading Call
-unlock_call k =
-    let at = behind_next k in
-    let count = behind_next at in
-    let kind = behind_next count in
-    with_next (index_in k) (λ index.
-    with_next (offset_in at) (λ from.
-    with_next (judged count (byte_range_of from (next_word count))) (λ range.
-    with_next (judged kind (choice_of (codes "exclusive") (codes "shared") (next_word kind))) (λ exclusive.
-    with_next (end_of (behind_next kind)) (λ _.
-    Ok (SmbUnlock (record { index = index; range = range; exclusive = exclusive })))))))
+unlock_call k = with_next (lock_in k) (λ lock. Ok (SmbUnlock (unlocked lock)))
 
 -- `stat K`
 unfoldable pub stat_call : List ℕ → Reading Call

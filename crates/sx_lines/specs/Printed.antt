@@ -1,6 +1,6 @@
 -- The parts of an answer, and their texts.
-use Rattle.std.specs.Prelude.{codes, ℕ, ◌&&◌, ◌||◌, ◌++◌, Bool, false, if◌then◌else◌, List, [], ◌∷◌}
-use Rattle.std.specs.List.{concat, flat_map}
+use Rattle.std.specs.Prelude.{codes, ℕ, ◌&&◌, ◌||◌, ◌++◌, Bool, false, map, if◌then◌else◌, List, [], ◌∷◌}
+use Rattle.std.specs.List.{concat, flat_map, join_with_byte}
 use Rattle.std.specs.Fmt.{decimal}
 use Rattle.hex.specs.Hex.{encode_lower}
 use Rattle.sx_names.specs.declared.attributes.Attributes.{Attributes}
@@ -10,7 +10,7 @@ use Rattle.sx_names.specs.declared.page.NameItem.{NameItem}
 use Rattle.sx_lines.specs.declared.gather.Word.{Word}
 use Rattle.sx_lines.specs.declared.gather.Word.TheVariants.{Text, Number, Hex, Percent}
 use Rattle.sx_lines.specs.declared.middle.Middle.{Middle}
-use Rattle.sx_lines.specs.declared.middle.Middle.TheVariants.{View, Attributes as AttributeWords, Items}
+use Rattle.sx_lines.specs.declared.middle.Middle.TheVariants.{View, Attributes as AttributeWords, Items, Path}
 
 -- bytes as they stand, a number in decimal digits, bytes in lower-case hexadecimal digits, and bytes in
 -- percent-encoding
@@ -41,8 +41,17 @@ item_text item =
     if item.dir then concat (codes " dir:0:" ∷ percent_text item.name ∷ [])
     else concat (codes " file:" ∷ decimal item.length ∷ codes ":" ∷ percent_text item.name ∷ [])
 
--- the part in the middle of an answer: bytes in hexadecimal digits, attributes, or items
+-- a part of a path in percent-encoding, with a slash before it
+abbrev pub slashed : List ℕ → List ℕ
+slashed part = concat (codes "/" ∷ percent_text part ∷ [])
+
+-- the parts of a path in percent-encoding one by one, with slashes between them
+abbrev pub path_text : List (List ℕ) → List ℕ
+path_text parts = join_with_byte 47 (map percent_text parts)
+
+-- the part in the middle of a line: bytes in hexadecimal digits, attributes, items, or a path
 abbrev pub middle_text : Middle → List ℕ
 middle_text (View view) = encode_lower view.now
 middle_text (AttributeWords attributes) = attributes_text attributes.now
 middle_text (Items items) = flat_map item_text items.now
+middle_text (Path parts) = path_text parts.now

@@ -1,7 +1,7 @@
 //! The lines that ask for a call on an open handle.
 ghost use Rattle.sx_lines.specs.Reading.{Reads};
-ghost use Rattle.sx_lines.specs.Lines.{close_call, read_call, write_call, resize_call, lock_call, unlock_call};
-ghost use Rattle.sx_lines.specs.Lines.{stat_call, list_call, dispose_call};
+ghost use Rattle.sx_lines.specs.Lines.{close_call, read_call, write_call, resize_call, lock_in, lock_call};
+ghost use Rattle.sx_lines.specs.Lines.{unlock_call, stat_call, list_call, dispose_call};
 
 use crate::fields::{
     byte_range_in, choice_in, index_in, length_in, offset_in, page_size_in, read_range_in, write_in,
@@ -64,10 +64,10 @@ pub(crate) fn resize_call(k: &[u8]) -> Result<Call, Unread>
     Ok(Call::SmbResize(SmbResize { index, length }))
 }
 
-/// `lock K AT COUNT shared|exclusive`
-#[tactic(auto, unfolding(crate::specs::Lines::lock_call))]
-pub(crate) fn lock_call(k: &[u8]) -> Result<Call, Unread>
-    ensures { Reads result (lock_call k.now) }
+/// `K AT COUNT shared|exclusive`, behind `lock` and `unlock`.
+#[tactic(auto, unfolding(crate::specs::Lines::lock_in))]
+fn lock_in(k: &[u8]) -> Result<SmbLock, Unread>
+    ensures { Reads result (lock_in k.now) }
 {
     let at = behind_next(k);
     let count = behind_next(at);
@@ -77,11 +77,20 @@ pub(crate) fn lock_call(k: &[u8]) -> Result<Call, Unread>
     let range = byte_range_in(from, count)?;
     let exclusive = choice_in(b"exclusive", b"shared", kind)?;
     end_of(behind_next(kind))?;
-    Ok(Call::SmbLock(SmbLock {
+    Ok(SmbLock {
         index,
         range,
         exclusive,
-    }))
+    })
+}
+
+/// `lock K AT COUNT shared|exclusive`
+#[tactic(auto, unfolding(crate::specs::Lines::lock_call))]
+pub(crate) fn lock_call(k: &[u8]) -> Result<Call, Unread>
+    ensures { Reads result (lock_call k.now) }
+{
+    let lock = lock_in(k)?;
+    Ok(Call::SmbLock(lock))
 }
 
 /// `unlock K AT COUNT shared|exclusive`
@@ -89,14 +98,11 @@ pub(crate) fn lock_call(k: &[u8]) -> Result<Call, Unread>
 pub(crate) fn unlock_call(k: &[u8]) -> Result<Call, Unread>
     ensures { Reads result (unlock_call k.now) }
 {
-    let at = behind_next(k);
-    let count = behind_next(at);
-    let kind = behind_next(count);
-    let index = index_in(k)?;
-    let from = offset_in(at)?;
-    let range = byte_range_in(from, count)?;
-    let exclusive = choice_in(b"exclusive", b"shared", kind)?;
-    end_of(behind_next(kind))?;
+    let SmbLock {
+        index,
+        range,
+        exclusive,
+    } = lock_in(k)?;
     Ok(Call::SmbUnlock(SmbUnlock {
         index,
         range,

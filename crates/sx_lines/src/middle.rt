@@ -1,18 +1,18 @@
-//! Answers of three parts: words, a part in the middle, and words.
-ghost use Rattle.std.specs.Prelude.{◌++◌};
+//! Lines of three parts: words, a part in the middle, and words.
+ghost use Rattle.std.specs.Prelude.{◌++◌, ◌∷◌};
 ghost use Rattle.std.specs.List.{flat_map};
 ghost use Rattle.sx_base.specs.Sink.{Prints};
 ghost use Rattle.sx_base.specs.Printer.{Gathers};
-ghost use Rattle.sx_lines.specs.Printed.{word_text, item_text, middle_text};
+ghost use Rattle.sx_lines.specs.Printed.{word_text, item_text, slashed, path_text, middle_text};
 
 use crate::attributes::gather_attributes;
 use crate::gather::{Gathered, Word, gather, put_gathered};
 use crate::view::gather_view;
 use sx_base::{Failed, Sink};
 use sx_extent::View;
-use sx_names::{Attributes, NameItem};
+use sx_names::{Attributes, NameItem, Part};
 
-/// The part in the middle of an answer.
+/// The part in the middle of a line.
 #[derive(Clone, Copy)]
 pub(crate) enum Middle<'a> {
     /// Bytes of a file in hexadecimal digits.
@@ -21,6 +21,8 @@ pub(crate) enum Middle<'a> {
     Attributes(&'a Attributes),
     /// The items of a page.
     Items(&'a [NameItem]),
+    /// The parts of a path, percent-encoded one by one, with slashes between them.
+    Path(&'a [Part]),
 }
 
 /// Gathers one item of a page.
@@ -72,6 +74,63 @@ fn gather_items<K: Sink>(
     Ok(())
 }
 
+/// Gathers a part of a path with a slash before it.
+fn gather_part<K: Sink>(sink: &mut K, gathered: &mut Gathered, part: &Part) -> Result<(), Failed>
+    ensures { Gathers K.wrote K.write_count K.puts sink.old sink.new gathered.old.items gathered.new.items
+        (slashed part.now) result }
+{
+    gather(
+        sink,
+        gathered,
+        &[Word::Text(b"/"), Word::Percent(part.kept())],
+    )
+}
+
+/// Gathers the parts of a path with a slash before each.
+fn gather_slashed<K: Sink>(
+    sink: &mut K,
+    gathered: &mut Gathered,
+    parts: &[Part],
+) -> Result<(), Failed>
+    ensures { Gathers K.wrote K.write_count K.puts sink.old sink.new gathered.old.items gathered.new.items
+        (flat_map slashed parts.now) result }
+{
+    for part in parts {
+        match gather_part(sink, gathered, part) {
+            Ok(()) => {}
+            Err(failed) => return Err(failed),
+        }
+    }
+    Ok(())
+}
+
+/// Gathers the parts of a path with slashes between them.
+fn gather_path<K: Sink>(sink: &mut K, gathered: &mut Gathered, parts: &[Part]) -> Result<(), Failed>
+    ensures { Gathers K.wrote K.write_count K.puts sink.old sink.new gathered.old.items gathered.new.items
+        (path_text parts.now) result }
+{
+    match parts {
+        [first, rest @ ..] => gather_named(sink, gathered, first, rest),
+        [] => gather(sink, gathered, &[]),
+    }
+}
+
+/// Gathers the first part of a path, and the others with a slash before each.
+fn gather_named<K: Sink>(
+    sink: &mut K,
+    gathered: &mut Gathered,
+    first: &Part,
+    rest: &[Part],
+) -> Result<(), Failed>
+    ensures { Gathers K.wrote K.write_count K.puts sink.old sink.new gathered.old.items gathered.new.items
+        (path_text (first.now ∷ rest.now)) result }
+{
+    match gather(sink, gathered, &[Word::Percent(first.kept())]) {
+        Ok(()) => gather_slashed(sink, gathered, rest),
+        Err(failed) => Err(failed),
+    }
+}
+
 /// Gathers the part in the middle.
 fn gather_middle<K: Sink>(
     sink: &mut K,
@@ -85,6 +144,7 @@ fn gather_middle<K: Sink>(
         Middle::View(view) => gather_view(sink, gathered, view),
         Middle::Attributes(attributes) => gather_attributes(sink, gathered, attributes),
         Middle::Items(items) => gather_items(sink, gathered, items),
+        Middle::Path(parts) => gather_path(sink, gathered, parts),
     }
 }
 

@@ -219,8 +219,8 @@ fn print_stats<K: Sink>(sink: &mut K, place: u64, stats: &Stats) -> Result<(), F
     )
 }
 
-/// The name in which the next page begins, as a word, `*` at the end.
-fn next_word(next: &Text) -> Word<'_>
+/// The name in which a page begins, as a word: `*` where it is empty, at the beginning or past the end.
+pub(crate) fn next_word(next: &Text) -> Word<'_>
     ensures { word_text result ≡ next_text next.now }
 {
     let name = next.bytes();
