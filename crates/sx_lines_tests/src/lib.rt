@@ -1,4 +1,4 @@
-//! What no clause of sx_lines says: that lines are read with ample memory, and worked lines and answers, byte by byte.
+//! Tests of the lines of sessions: worked lines and answers, byte by byte, read, written and printed with ample memory.
 #![tactic(auto)]
 
 #[cfg(test)]
@@ -8,6 +8,6 @@ mod calls;
 #[cfg(test)]
 mod faults;
 #[cfg(test)]
-mod pages;
+mod lines;
 #[cfg(test)]
-mod written;
+mod pages;
