@@ -10,7 +10,7 @@ use sx_book::{Book, ConnReport, Office, Pass};
 use sx_key::Account;
 use sx_rest_door::serve_conn;
 
-fn account(rt: &impl Abort, alloc: Global) -> Account {
+pub fn account(rt: &impl Abort, alloc: Global) -> Account {
     match Account::read(alloc, b"acct", b"a2V5") {
         Ok(account) => account,
         Err(_) => panic!(rt; "no account"),

@@ -5,3 +5,5 @@
 mod conn;
 #[cfg(test)]
 mod rows;
+#[cfg(test)]
+mod threads;
