@@ -281,8 +281,14 @@ fn is_said(said: &Result<Line, LineFault>, wanted: Said) -> bool {
     }
 }
 
+/// Lets go of a value.
+fn let_go<T: Drop>(_value: T) {}
+
 fn says(alloc: Global, line: &[u8], wanted: Said) -> bool {
-    is_said(&call_of_line(alloc, line), wanted)
+    let said = call_of_line(alloc, line);
+    let is_wanted = is_said(&said, wanted);
+    let_go(said);
+    is_wanted
 }
 
 fn check(rt: &impl Abort, alloc: Global, rows: &[(&[u8], Said)]) {

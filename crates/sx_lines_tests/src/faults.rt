@@ -227,9 +227,15 @@ fn place_of(said: &Result<Line, LineFault>) -> Option<u64> {
     }
 }
 
+/// Lets go of a value.
+fn let_go<T: Drop>(_value: T) {}
+
 /// The place that a line is refused with.
 fn refused_at(alloc: Global, line: &[u8]) -> Option<u64> {
-    place_of(&call_of_line(alloc, line))
+    let said = call_of_line(alloc, line);
+    let place = place_of(&said);
+    let_go(said);
+    place
 }
 
 fn check(rt: &impl Abort, alloc: Global, rows: &[(&[u8], u64)]) {
