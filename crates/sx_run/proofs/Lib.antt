@@ -1,1 +1,2 @@
+mod NineWords
 pub mod Visiting

@@ -1,9 +1,10 @@
 //! The words of the command `serve`.
 
-ghost use Rattle.std.specs.Prelude.{◌≡◌, ◌≤◌, ℕ, length, map, codes, decimal, IfOk, OnErr, IsErrOf};
+ghost use Rattle.std.specs.Prelude.{◌≡◌, ◌≤◌, ◌<◌, ◌^◌, ℕ, true, false, length, map, codes, decimal, IfOk, OnErr, IsErrOf};
 ghost use Rattle.std.specs.String.{string_bytes};
 ghost use Rattle.sx_key.specs.declared.account.Account.{Account};
-ghost use Rattle.sx_run.specs.Words.{IsServe, IsNoServe, most_workers};
+ghost use Rattle.sx_tool.specs.Typed.{IsAccount};
+ghost use Rattle.sx_run.specs.Words.{IsServe, IsNoServe};
 ghost use Rattle.sx_run.specs.declared.words.WordsFault.TheVariants as WordsFault;
 
 use std::alloc::Global;
@@ -60,7 +61,7 @@ fn nine_words(alloc: Global, words: &[String]) -> Result<ServeWords, WordsFault>
     ensures words { IfOk result (λ serve. IsServe (map string_bytes words.now) serve) }
     ensures fault { IsErrOf result WordsFault.Unknown → IsNoServe (map string_bytes words.now) }
 {
-    if words[0].as_str() != "serve" {
+    if !is_serve(words[0].as_str()) {
         return Err(WordsFault::Unknown);
     }
     let rest_port = port_of(words[1].as_str())?;
@@ -81,12 +82,20 @@ fn nine_words(alloc: Global, words: &[String]) -> Result<ServeWords, WordsFault>
     })
 }
 
+/// Whether a word is the command's name.
+fn is_serve(word: &str) -> bool
+    ensures yes { result ≡ true → word.now ≡ codes "serve" }
+    ensures no { result ≡ false → ¬ (word.now ≡ codes "serve") }
+{
+    word == "serve"
+}
+
 /// The port that a word spells.
 fn port_of(word: &str) -> Result<u16, WordsFault>
-    ensures port { IfOk result (λ n. word.now ≡ decimal n) }
-    ensures fault { OnErr result ((n : ℕ) → n ≤ 65535 → word.now ≡ decimal n → ⊥) }
+    ensures port { IfOk result (λ n. (word.now ≡ decimal n) × (n < 2 ^ 16)) }
+    ensures fault { OnErr result ((n : ℕ) → n < 2 ^ 16 → word.now ≡ decimal n → ⊥) }
 {
-    match number_of(word, 65_535) {
+    match number_of(word, u64::from(u16::MAX)) {
         Some(number) => Ok(number as u16),
         None => Err(WordsFault::Unknown),
     }
@@ -97,10 +106,13 @@ fn count_of(word: &str, least: u32, most: u32) -> Result<u32, WordsFault>
     ensures count { IfOk result (λ n. (word.now ≡ decimal n) × (least ≤ n) × (n ≤ most)) }
     ensures fault { OnErr result ((n : ℕ) → least ≤ n → n ≤ most → word.now ≡ decimal n → ⊥) }
 {
-    match number_of(word, u64::from(most)) {
-        Some(number) if u64::from(least) <= number => Ok(number as u32),
-        _ => Err(WordsFault::Unknown),
+    let Some(number) = number_of(word, u64::from(most)) else {
+        return Err(WordsFault::Unknown);
+    };
+    if number < u64::from(least) {
+        return Err(WordsFault::Unknown);
     }
+    Ok(number as u32)
 }
 
 /// The account of a name and a key in base64.
