@@ -1,2 +1,3 @@
+pub mod Crews
 mod NineWords
 pub mod Visiting

@@ -1,10 +1,12 @@
 //! The service over sockets: the words of its command, its workers, and all that it does.
 #![tactic(auto)]
 
+mod crew;
 mod report;
 mod words;
 mod worker;
 
+pub use crew::{CrewReport, Unhired, Worker, dismiss, hire};
 pub use report::{WorkEnd, WorkReport};
 pub use words::{ServeWords, WordsFault, serve_words};
 pub use worker::{LINK_BUDGET, smb_worker};

@@ -1,0 +1,79 @@
+-- Workers are hired and dismissed.
+use Rattle.std.proofs.Common.{ℕ, zero, suc, ◌+◌, ◌-◌, ◌^◌, ◌<◌, ◌≤◌, ◌≡◌, ◌≢◌, ◌||◌, Bool, true, false, min, List, [], ◌∷◌, ◌++◌, length, map, Option, Some, None, refl, sym, ap, ◌∙◌, subst, arith, append_assoc, append-nil}
+use Rattle.std.specs.List.{AllByRecursion, flat_map, list_any}
+use Rattle.std.specs.Option.{option_map}
+use Rattle.std.proofs.lemmas.List.{map-append}
+use mathlib.Core.List.{IsPrefix}
+use Rattle.sx_base.specs.Causes.{Rose, TakesOver}
+use Rattle.sx_base.specs.LinkLists.{Links, no_links}
+use Rattle.sx_call.specs.declared.entries.Noted.{Noted}
+use Rattle.sx_turn.specs.Seats.{TableId}
+use Rattle.sx_turn.proofs.Lists.{each_map, each_snoc}
+use Rattle.sx_book.specs.Passes.{PassView, caller_of, new_pass, after_meet, pass_pairs}
+use Rattle.sx_run.specs.declared.crew.Worker.{Worker}
+use Rattle.sx_run.specs.Crews.{Told, forked, IsNewPass, Lent, TakenBack, worker_pairs}
+use Rattle.sx_run.proofs.Visiting.{prefix_both}
+
+-- a fork of a fork tells no links either
+forked_again : {K : Type 0} (links : Option (Links K)) → forked (forked links) ≡ forked links
+forked_again None = refl
+forked_again (Some l) = refl
+
+-- one listener more was taken, and a fork stands in its place
+pub lent_more : {K : Type 0} (given : Told K) (ts : List (Told K)) (now taken next : Told K) → taken.links ≡ now.links → now.faults ≤ taken.faults → next.links ≡ forked now.links → Lent given ts now → Lent given (ts ++ taken ∷ []) next
+lent_more given [] now taken next same later fork x = (same ∙ x.0, (let a = x.1 in omega (arith, a, later)), tt, fork ∙ ap forked x.0)
+lent_more given (t ∷ ts) now taken next same later fork x =
+    (x.0, x.1, each_snoc (λ u. u.links ≡ forked given.links) ts taken x.2 (same ∙ x.3), fork ∙ (ap forked x.3 ∙ forked_again given.links))
+
+-- the listener in the workers' place is as it was, but for its faults
+pub lent_same : {K : Type 0} (given : Told K) (ts : List (Told K)) (now next : Told K) → next.links ≡ now.links → now.faults ≤ next.faults → Lent given ts now → Lent given ts next
+lent_same given [] now next same later x = (same ∙ x.0, (let a = x.1 in omega (arith, a, later)))
+lent_same given (t ∷ ts) now next same later x = (x.0, x.1, x.2, same ∙ x.3)
+
+-- a pass that an office gave out is new
+pub new_by : (office : TableId) (limit : ℕ) (p q : PassView) → p.office ≡ office → p.limit ≡ limit → q ≡ new_pass p q.number q.seen → AllByRecursion (λ n. caller_of n < q.number) q.seen → IsNewPass office limit q
+new_by office limit p q own bound is below = record {
+  office_is = ap (λ (x : PassView). x.office) is ∙ own;
+  limit_is = ap (λ (x : PassView). x.limit) is ∙ bound;
+  none = ap (λ (x : PassView). x.mine) is;
+  alone = ap (λ (x : PassView). x.ended) is;
+  unknown = each_map (λ n. caller_of n < q.number) (λ n. caller_of n ≢ q.number) (λ n l e. omega (arith, l, e)) q.seen below;
+}
+
+-- ---- dismissal
+-- the first pass has met those of these workers
+pub record MetSoFar {L C W : Type 0} (old new : PassView) (done : List (Worker L C W)) : Type 0 where
+  pub met : new ≡ record old { seen = new.seen; known = new.known; ended = worker_pairs done ++ old.ended }
+  pub grown : IsPrefix old.seen new.seen
+  pub seen : AllByRecursion (λ w. IsPrefix w.pass.seen new.seen) done
+
+pub met_none : {L C W : Type 0} (p : PassView) → MetSoFar {L = L} {C = C} {W = W} p p []
+met_none p = record { met = refl; grown = ([], append-nil p.seen); seen = tt }
+
+-- one more met it
+pub met_more : {L C W : Type 0} (old now new : PassView) (done : List (Worker L C W)) (w : Worker L C W) → MetSoFar old now done → new ≡ after_meet now w.pass → IsPrefix now.seen new.seen × IsPrefix w.pass.seen new.seen → MetSoFar old new (w ∷ done)
+met_more old now new done w m met seen =
+    let pairs : new.ended ≡ worker_pairs (w ∷ done) ++ old.ended =
+    ap (λ (p : PassView). p.ended) met ∙ (ap (λ (p : PassView). pass_pairs w.pass ++ p.ended) m.met ∙ sym (append_assoc (pass_pairs w.pass) (worker_pairs done) old.ended)) in
+    record {
+      met = met ∙ (ap (λ (x : PassView × List Noted × ℕ × List (ℕ × List ℕ)). record x.0 { seen = x.1; known = x.2; ended = x.3 })
+          (λ j. (m.met j, sym (ap (λ (p : PassView). p.seen) met) j, sym (ap (λ (p : PassView). p.known) met) j, (sym (ap (λ (p : PassView). p.ended) met) ∙ pairs) j)));
+      grown = prefix_both old.seen now.seen new.seen m.grown seen.0;
+      seen = (seen.1, each_map _ _ (λ u p. prefix_both u.pass.seen now.seen new.seen p seen.0) done m.seen);
+    }
+
+-- where a fact holds of all, it holds of one in the middle
+pub each_at : {A : Type 0} (P : A → Type 0) (xs : List A) (x : A) (ys : List A) → AllByRecursion P ((xs ++ x ∷ []) ++ ys) → P x
+each_at P [] x ys a = a.0
+each_at P (z ∷ zs) x ys a = each_at P zs x ys a.1
+
+-- one more listener stands in the place, and has taken back what stood there
+pub back_more : {L K : Type 0} (links : L → Option (Links K)) (faults : L → ℕ) (ts : List (Told K)) (now : Told K) (stood own fork placed after : L) → fork ≡ stood → placed ≡ own
+    → TakenBack ts now (record { links = links stood; faults = faults stood }) → links after ≡ links placed → TakesOver (faults fork) (faults placed) (faults after)
+    → TakenBack ((record { links = links own; faults = faults own }) ∷ ts) now (record { links = links after; faults = faults after })
+back_more links faults ts now stood own fork placed after is at back same over = (
+  record { links = links stood; faults = faults stood },
+  back,
+  subst (λ (x : ℕ × ℕ). TakesOver x.0 x.1 (faults after)) (λ j. (ap faults is j, ap faults at j)) over,
+  same ∙ ap links at,
+)
