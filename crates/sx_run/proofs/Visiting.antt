@@ -8,8 +8,7 @@ use Rattle.std.proofs.lemmas.List.{take-append-le, drop-append-le, drop-drop, ma
 use Rattle.std.proofs.lemmas.List.Folds.{list_any-append}
 use mathlib.Core.List.{IsPrefix}
 use Rattle.sx_base.specs.Causes.{Rose}
-use Rattle.std.specs.Prelude.{Result, Ok}
-use Rattle.sx_base.specs.LinkLists.{Links, Accepts, IsNoneLeft, GivesLink, after_given, after_finished}
+use Rattle.sx_base.specs.LinkLists.{Links, GivesLink, after_given, after_finished}
 use Rattle.sx_call.specs.declared.entries.Noted.{Noted}
 use Rattle.sx_turn.proofs.Lists.{each_append}
 use Rattle.sx_book.specs.History.{History}
@@ -17,7 +16,7 @@ use Rattle.sx_book.specs.OneHistory.{history_of}
 use Rattle.sx_book.specs.Passes.{PassView, caller_of}
 use Rattle.sx_book.specs.declared.report.ConnReport.{ConnReport}
 use Rattle.sx_run.specs.declared.report.WorkEnd.{WorkEnd}
-use Rattle.sx_run.specs.declared.report.WorkEnd.TheVariants.{ListenFault}
+use Rattle.sx_run.specs.declared.report.WorkEnd.TheVariants.{Enough, Drained, ListenFault}
 use Rattle.sx_run.specs.declared.report.WorkReport.{WorkReport}
 use Rattle.sx_run.specs.Visits.{Stretch, Side, Talks, Visit, HasNone, IsVisit, AreVisits, TakesLinks, Post, Works, IsWorkEnd, history_to, after_visits, links_given, links_left, was_full, was_starved, with_link}
 
@@ -176,6 +175,10 @@ IsSoFar p q = q ≡ record p { seen = q.seen; mine = q.mine }
 pub so_far : (p q r : PassView) → IsSoFar p q → IsSoFar q r → IsSoFar p r
 so_far p q r a b = b ∙ ap (λ (x : PassView). record x { seen = r.seen; mine = r.mine }) a
 
+-- a pass that has seen more and has these places, is one so far
+pub so_far_with : (p q : PassView) (mine : List ℕ) → q ≡ record p { seen = q.seen; mine = mine } → IsSoFar p q
+so_far_with p q mine e = e ∙ ap (λ (m : List ℕ). record p { seen = q.seen; mine = m }) (sym (ap (λ (x : PassView). x.mine) e))
+
 module _ {K D : Type 0} (talks : Talks K D) (p : PassView) (conns : ℕ) (old : Post K D) where
   -- the work so far by a worker's pass
   abbrev pub WorkingBy : PassView → Post K D → WorkReport → Type 0
@@ -200,21 +203,19 @@ module _ {K D : Type 0} (talks : Talks K D) (p : PassView) (conns : ℕ) (old : 
       (works_by talks p.number p.limit (length p.seen) conns q.seen old now new work report w links door later is end cause)
 
 -- ---- why a worker ended
-pub ends_enough : {K : Type 0} (links : Option (Links K)) (conns served n : ℕ) → conns < 2 ^ 32 → (1 ≤ conns) × (conns ≤ served) → served ≡ min n (2 ^ 64 - 1) → (1 ≤ conns → n ≤ conns) → (1 ≤ conns) × (n ≡ conns)
-ends_enough links conns served n few enough count within = (enough.0, (let w = within enough.0 in let e = enough.1 in omega (arith, w, e, count)))
-
 -- fewer links than may be served, by the count of them
-pub below_by : (conns served n : ℕ) → conns < 2 ^ 32 → (1 ≤ conns → served < conns) → served ≡ min n (2 ^ 64 - 1) → 1 ≤ conns → n < conns
+below_by : (conns served n : ℕ) → conns < 2 ^ 32 → (1 ≤ conns → served < conns) → served ≡ min n (2 ^ 64 - 1) → 1 ≤ conns → n < conns
 below_by conns served n few below count some = let b = below some in omega (arith, b, count, few)
 
--- ---- what an accept gave
-pub gives_by : {K E : Type 0} (old new : Option (Links K)) (r : Result (Option K) E) (o : Option K) (link : K) → r ≡ Ok o → o ≡ Some link → Accepts old r new → GivesLink old link new
-gives_by {K} {E} old new r o link is some x = subst (λ (a : Result (Option K) E). Accepts old a new) (is ∙ ap Ok some) x
+-- the end by the count of links is the end by the links
+pub ends_by : {K : Type 0} (links : Option (Links K)) (conns : ℕ) (end : WorkEnd) (served n : ℕ) → conns < 2 ^ 32 → IsWorkEnd conns end served links → served ≡ min n (2 ^ 64 - 1) → (1 ≤ conns → n ≤ conns) → IsWorkEnd conns end n links
+ends_by links conns Enough served n few e count within = (e.0, (let w = within e.0 in let s = e.1 in omega (arith, w, s, count, few)))
+ends_by links conns Drained served n few e count within = (below_by conns served n few e.0 count, e.1)
+ends_by links conns ListenFault served n few e count within = below_by conns served n few e count
 
-pub none_by : {K E : Type 0} (old new : Option (Links K)) (r : Result (Option K) E) (o : Option K) → r ≡ Ok o → o ≡ None → Accepts old r new → (new ≡ old) × IsNoneLeft new
-none_by {K} {E} old new r o is none x =
-    let y : IsNoneLeft old × (new ≡ old) = subst (λ (a : Result (Option K) E). Accepts old a new) (is ∙ ap Ok none) x in
-    (y.1, subst IsNoneLeft (sym y.1) y.0)
+-- the count of links is within what may be served, as the links are
+pub count_within : (conns served n : ℕ) → served ≡ min n (2 ^ 64 - 1) → (1 ≤ conns → n ≤ conns) → 1 ≤ conns → served ≤ conns
+count_within conns served n count within some = let w = within some in omega (arith, w, count)
 
 -- a beginning of a beginning begins the list
 pub prefix_both : {A : Type 0} (xs ys zs : List A) → IsPrefix xs ys → IsPrefix ys zs → IsPrefix xs zs

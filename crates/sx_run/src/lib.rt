@@ -5,8 +5,10 @@ mod crew;
 mod report;
 mod words;
 mod worker;
+mod working;
 
 pub use crew::{CrewReport, Unhired, Worker, dismiss, hire};
 pub use report::{WorkEnd, WorkReport};
 pub use words::{ServeWords, WordsFault, serve_words};
-pub use worker::{LINK_BUDGET, smb_worker};
+pub use worker::{LINK_BUDGET, rest_worker, smb_worker};
+pub use working::{work_rest, work_smb};
