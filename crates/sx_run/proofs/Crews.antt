@@ -1,7 +1,8 @@
 -- Workers are hired and dismissed.
-use Rattle.std.proofs.Common.{ℕ, zero, suc, ◌+◌, ◌-◌, ◌^◌, ◌<◌, ◌≤◌, ◌≡◌, ◌≢◌, ◌||◌, Bool, true, false, min, List, [], ◌∷◌, ◌++◌, length, map, Option, Some, None, refl, sym, ap, ◌∙◌, subst, arith, append_assoc, append-nil}
+use Rattle.std.proofs.Common.{ℕ, zero, suc, ◌+◌, ◌-◌, ◌^◌, ◌<◌, ◌≤◌, ◌≡◌, ◌≢◌, ◌||◌, Bool, true, false, min, List, [], ◌∷◌, ◌++◌, length, map, take, drop, slice_index_or, Option, Some, None, refl, sym, ap, ◌∙◌, subst, arith, append_assoc, append-nil}
 use Rattle.std.specs.List.{AllByRecursion, flat_map, list_any}
 use Rattle.std.specs.Option.{option_map}
+use Rattle.std.proofs.Math.Seq.{take-length}
 use Rattle.std.proofs.lemmas.List.{map-append}
 use mathlib.Core.List.{IsPrefix}
 use Rattle.sx_base.specs.Causes.{Rose, TakesOver}
@@ -10,9 +11,12 @@ use Rattle.sx_call.specs.declared.entries.Noted.{Noted}
 use Rattle.sx_turn.specs.Seats.{TableId}
 use Rattle.sx_turn.proofs.Lists.{each_map, each_snoc}
 use Rattle.sx_book.specs.Passes.{PassView, caller_of, new_pass, after_meet, pass_pairs}
+use Rattle.sx_run.specs.declared.crew.CrewReport.{CrewReport}
+use Rattle.sx_run.specs.declared.crew.Door.{Door}
 use Rattle.sx_run.specs.declared.crew.Worker.{Worker}
-use Rattle.sx_run.specs.Crews.{Told, forked, IsNewPass, Lent, TakenBack, worker_pairs}
-use Rattle.sx_run.proofs.Visiting.{prefix_both}
+use Rattle.sx_run.specs.declared.report.WorkReport.{WorkReport}
+use Rattle.sx_run.specs.Crews.{Told, forked, AllTwo, AreDismissed, AreHired, IsNewPass, Lent, TakenBack, crew_report, worker_pairs}
+use Rattle.sx_run.proofs.Visiting.{drop_whole, prefix_both}
 
 -- a fork of a fork tells no links either
 forked_again : {K : Type 0} (links : Option (Links K)) → forked (forked links) ≡ forked links
@@ -38,6 +42,17 @@ new_by office limit p q own bound is below = record {
   none = ap (λ (x : PassView). x.mine) is;
   alone = ap (λ (x : PassView). x.ended) is;
   unknown = each_map (λ n. caller_of n < q.number) (λ n. caller_of n ≢ q.number) (λ n l e. omega (arith, l, e)) q.seen below;
+}
+
+-- workers behind others, and one more
+pub hired_more : {L C W K : Type 0} (tell : L → Told K) (office : TableId) (limit : ℕ) (door : Door) (given now next : Told K) (before all all' : List (Worker L C W)) (w : Worker L C W) → all' ≡ all ++ w ∷ [] → AreHired tell office limit door given now before all
+    → IsNewPass office limit w.pass × (w.door ≡ door) → (tell w.listener).links ≡ now.links → now.faults ≤ (tell w.listener).faults → next.links ≡ forked now.links → AreHired tell office limit door given next before all'
+hired_more {L} {C} {W} {K} tell office limit door given now next before all all' w is h new same later fork = record {
+  hired = h.hired ++ w ∷ [];
+  all_are = is ∙ (ap (λ (ws : List (Worker L C W)). ws ++ w ∷ []) h.all_are ∙ append_assoc before h.hired (w ∷ []));
+  new = each_snoc (λ u. IsNewPass office limit u.pass × (u.door ≡ door)) h.hired w h.new new;
+  lent = subst (λ (ts : List (Told K)). Lent given ts next) (sym (map-append (λ u. tell u.listener) h.hired (w ∷ [])))
+      (lent_more given (map (λ u. tell u.listener) h.hired) now (tell w.listener) next same later fork h.lent);
 }
 
 -- ---- dismissal
@@ -77,3 +92,49 @@ back_more links faults ts now stood own fork placed after is at back same over =
   subst (λ (x : ℕ × ℕ). TakesOver x.0 x.1 (faults after)) (λ j. (ap faults is j, ap faults at j)) over,
   same ∙ ap links at,
 )
+
+pub dismissed_none : {L C W K : Type 0} (tell : L → Told K) (p : PassView) (now : Told K) (all : List (Worker L C W)) → AreDismissed tell p p now now all all (crew_report [])
+dismissed_none {L} {C} {W} tell p now all = record {
+  gone = [];
+  all_are = sym (append-nil all);
+  met = refl;
+  grown = ([], append-nil p.seen);
+  seen = tt;
+  back = refl;
+  report_is = refl;
+}
+
+-- one more was dismissed
+pub dismissed_more : {L C W K : Type 0} (links : L → Option (Links K)) (faults : L → ℕ) (main now new : PassView) (begun : Told K) (stood fork placed after : L) (all left left' : List (Worker L C W)) (w : Worker L C W) (report report' : CrewReport)
+    → AreDismissed (λ l. record { links = links l; faults = faults l }) main now begun (record { links = links stood; faults = faults stood }) all left report
+    → left ≡ left' ++ w ∷ [] → new ≡ after_meet now w.pass → IsPrefix now.seen new.seen × IsPrefix w.pass.seen new.seen → fork ≡ stood → placed ≡ w.listener
+    → links after ≡ links placed → TakesOver (faults fork) (faults placed) (faults after) → ((rs : List WorkReport) → report ≡ crew_report rs → report' ≡ crew_report (w.report ∷ rs))
+    → AreDismissed (λ l. record { links = links l; faults = faults l }) main new begun (record { links = links after; faults = faults after }) all left' report'
+dismissed_more {L} {C} {W} {K} links faults main now new begun stood fork placed after all left left' w report report' d is met seen fork_is placed_is same over told =
+    let m = met_more main now new d.gone w (record { met = d.met; grown = d.grown; seen = d.seen }) met seen in
+    record {
+      gone = w ∷ d.gone;
+      all_are = d.all_are ∙ (ap (λ (ws : List (Worker L C W)). ws ++ d.gone) is ∙ append_assoc left' (w ∷ []) d.gone);
+      met = m.met;
+      grown = m.grown;
+      seen = m.seen;
+      back = back_more links faults (map (λ u. record { links = links u.listener; faults = faults u.listener }) d.gone) begun stood w.listener fork placed after fork_is placed_is d.back same over;
+      report_is = told (map (λ u. u.report) d.gone) d.report_is;
+    }
+
+-- ---- two lists, item by item
+two_at : {A : Type 0} (P : A → A → Type 0) (xs ys : List A) → length ys ≡ length xs → ((i : ℕ) (d : A) → i < length xs → P (slice_index_or xs i d) (slice_index_or ys i d)) → AllTwo P xs ys
+two_at P [] [] e h = tt
+two_at P [] (y ∷ ys) e h = cc e
+two_at P (x ∷ xs) [] e h = cc e
+two_at P (x ∷ xs) (y ∷ ys) e h = (h 0 x (omega arith), two_at P xs ys (omega (arith, e)) (λ i d l. h (suc i) d (omega (arith, l))))
+
+-- a slice that was written back into its whole vector
+back_is : {A : Type 0} (xs ys : List A) (len : ℕ) → length ys ≡ length xs → len ≡ length xs → take len (ys ++ drop (length ys) xs) ≡ ys
+back_is xs ys len many is =
+    ap (λ (n : ℕ). take len (ys ++ drop n xs)) many ∙ (ap (λ (t : List _). take len (ys ++ t)) (drop_whole xs) ∙ (ap (take len) (append-nil ys) ∙ (ap (λ (n : ℕ). take n ys) (is ∙ sym many) ∙ take-length ys)))
+
+pub two_back : {A : Type 0} (P : A → A → Type 0) (xs zs ys : List A) (len : ℕ) → zs ≡ xs → length ys ≡ length zs → len ≡ length xs → ((i : ℕ) (d : A) → i < length zs → P (slice_index_or zs i d) (slice_index_or ys i d))
+    → AllTwo P xs (take len (ys ++ drop (length ys) xs))
+two_back {A} P xs zs ys len value many is ran =
+    subst (λ (x : List A × List A). AllTwo P x.0 x.1) (λ j. (value j, sym (back_is xs ys len (many ∙ ap length value) is) j)) (two_at P zs ys many ran)

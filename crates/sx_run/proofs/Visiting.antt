@@ -21,7 +21,7 @@ use Rattle.sx_run.specs.declared.report.WorkReport.{WorkReport}
 use Rattle.sx_run.specs.Visits.{Stretch, Side, Talks, Visit, HasNone, IsVisit, AreVisits, TakesLinks, Post, Works, IsWorkEnd, history_to, after_visits, links_given, links_left, was_full, was_starved, with_link}
 
 -- nothing is left behind a whole list
-drop_whole : {A : Type 0} (xs : List A) → drop (length xs) xs ≡ []
+pub drop_whole : {A : Type 0} (xs : List A) → drop (length xs) xs ≡ []
 drop_whole [] = refl
 drop_whole (x ∷ xs) = drop_whole xs
 

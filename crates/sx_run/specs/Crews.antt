@@ -3,11 +3,13 @@ use Rattle.std.specs.Prelude.{ℕ, ◌≡◌, ◌≤◌, ◌==◌, ◌<◌, Bool
 use Rattle.std.specs.List.{AllByRecursion, flat_map, list_any}
 use Rattle.std.specs.Option.{option_map}
 use mathlib.Core.List.{IsPrefix}
-use Rattle.sx_base.specs.Causes.{TakesOver}
+use Rattle.sx_base.specs.Causes.{Rose, TakesOver}
 use Rattle.sx_base.specs.LinkLists.{Links, no_links}
 use Rattle.sx_turn.specs.Seats.{TableId}
 use Rattle.sx_book.specs.OneHistory.{history_of}
 use Rattle.sx_book.specs.Passes.{PassView, HasOwnPlaces, pass_pairs}
+use Rattle.sx_run.specs.declared.crew.Door.{Door}
+use Rattle.sx_run.specs.declared.crew.Door.TheVariants.{Rest, Smb}
 use Rattle.sx_run.specs.declared.crew.Worker.{Worker}
 use Rattle.sx_run.specs.declared.crew.CrewReport.{CrewReport}
 use Rattle.sx_run.specs.declared.report.WorkEnd.{WorkEnd}
@@ -44,6 +46,20 @@ Lent given (t ∷ ts) now =
     (t.links ≡ given.links) × (given.faults ≤ t.faults)
     × AllByRecursion (λ u. u.links ≡ forked given.links) ts × (now.links ≡ forked given.links)
 
+-- workers of a door were hired behind those before: they have new passes, and their listeners were lent to them
+pub record AreHired {L C W K : Type 0} (tell : L → Told K) (office : TableId) (limit : ℕ) (door : Door)
+    (given now : Told K) (before all : List (Worker L C W))
+    : Type 0 where
+  pub hired : List (Worker L C W)
+  pub all_are : all ≡ before ++ hired
+  pub new : AllByRecursion (λ w. IsNewPass office limit w.pass × (w.door ≡ door)) hired
+  pub lent : Lent given (map (λ w. tell w.listener) hired) now
+
+-- a call of the listener that stands in the workers' place failed since they were hired
+abbrev pub Failed : {K : Type 0} → Told K → List (Told K) → Told K → Type 0
+Failed given [] now = Rose given.faults now.faults
+Failed given (t ∷ ts) now = 1 ≤ now.faults
+
 -- each listener took back the one behind it, the last that which stood in their place, and the first is what is left
 abbrev pub TakenBack : {K : Type 0} → List (Told K) → Told K → Told K → Type 0
 TakenBack [] now left = left ≡ now
@@ -68,6 +84,19 @@ crew_report rs = record {
   full = list_any (λ r. r.full) rs;
 }
 
+-- the workers behind those that are left were dismissed: the first pass has met theirs and the listener took back
+-- theirs, and their reports were put together
+pub record AreDismissed {L C W K : Type 0} (tell : L → Told K) (main main' : PassView) (now left_over : Told K)
+    (all left : List (Worker L C W)) (report : CrewReport)
+    : Type 0 where
+  pub gone : List (Worker L C W)
+  pub all_are : all ≡ left ++ gone
+  pub met : main' ≡ record main { seen = main'.seen; known = main'.known; ended = worker_pairs gone ++ main.ended }
+  pub grown : IsPrefix main.seen main'.seen
+  pub seen : AllByRecursion (λ w. IsPrefix w.pass.seen main'.seen) gone
+  pub back : TakenBack (map (λ w. tell w.listener) gone) now left_over
+  pub report_is : report ≡ crew_report (map (λ w. w.report) gone)
+
 -- a worker did its work through its own pass, with its own listener and door
 pub record HasRun {L C W K D : Type 0} (talks : Talks K D) (conns : ℕ) (post : Worker L C W → Post K D)
     (old new : Worker L C W)
@@ -77,3 +106,17 @@ pub record HasRun {L C W K D : Type 0} (talks : Talks K D) (conns : ℕ) (post :
   pub places : HasOwnPlaces new.pass
   pub works : Works talks (record { who = old.pass.number; history = history_of new.pass; from = length old.pass.seen })
       conns (post old) (post new) new.report
+
+-- each item of a list, and that at its place in another as long
+abbrev pub AllTwo : {A : Type 0} → (A → A → Type 0) → List A → List A → Type 0
+AllTwo P [] [] = Unit {0}
+AllTwo P [] (y ∷ ys) = ⊥
+AllTwo P (x ∷ xs) [] = ⊥
+AllTwo P (x ∷ xs) (y ∷ ys) = P x y × AllTwo P xs ys
+
+-- a worker does its work by its door
+pub record RunsAt {L C W K D E : Type 0} (rest_talks : Talks K D) (smb_talks : Talks K E) (conns : ℕ)
+    (rest_post : Worker L C W → Post K D) (smb_post : Worker L C W → Post K E) (old new : Worker L C W)
+    : Type 0 where
+  pub rest : old.door ≡ Rest → HasRun rest_talks conns rest_post old new
+  pub smb : old.door ≡ Smb → HasRun smb_talks conns smb_post old new

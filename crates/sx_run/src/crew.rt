@@ -1,10 +1,10 @@
 //! The workers of a door, from their hiring to their dismissal.
-ghost use Rattle.std.specs.Prelude.{◌≡◌, ◌+◌, ◌++◌, ◌∷◌, List, map, IsErrOf, OnOk, vec_len};
+ghost use Rattle.std.specs.Prelude.{◌≡◌, ◌+◌, ◌≤◌, ◌∷◌, List, IsErrOf, OnOk, OnErr, vec_len};
 ghost use Rattle.std.specs.List.{AllByRecursion};
-ghost use mathlib.Core.List.{IsPrefix};
 ghost use Rattle.sx_base.specs.Causes.{Rose};
-ghost use Rattle.sx_run.specs.Crews.{IsNewPass, Lent, TakenBack, Told, crew_report, is_faulted, no_work, worker_pairs};
+ghost use Rattle.sx_run.specs.Crews.{AreDismissed, AreHired, Told, crew_report, is_faulted, no_work};
 ghost use Rattle.sx_run.specs.declared.report.WorkReport.{WorkReport};
+ghost use Rattle.sx_run.specs.declared.crew.Worker.{Worker};
 ghost use Rattle.sx_run.specs.declared.crew.Unhired.TheVariants as Unhired;
 
 use crate::report::{WorkEnd, WorkReport};
@@ -13,8 +13,19 @@ use std::sync::Wait;
 use sx_base::{Clock, Listener, Random};
 use sx_book::{Office, Pass};
 
-/// A worker: its pass, a listener, a clock and random words of its own, and the report of its work.
+/// A door, at which workers serve links.
+#[derive(Clone, Copy, Debug, PartialEq, Eq)]
+pub enum Door {
+    /// Signed requests.
+    Rest,
+    /// Sessions.
+    Smb,
+}
+
+/// A worker: its door, its pass, a listener, a clock and random words of its own, and the report of its work.
 pub struct Worker<L, C, W> {
+    /// Its door.
+    pub door: Door,
     /// Its pass.
     pub pass: Pass,
     /// Its listener.
@@ -60,10 +71,11 @@ fn no_work() -> WorkReport
 }
 
 /// Hires a worker. It takes the listener, in whose place it leaves a fork.
-pub fn hire<R: Wait, L: Listener, C: Clock, W: Random>(
+fn hire<R: Wait, L: Listener, C: Clock, W: Random>(
     rt: &R,
     office: &Office,
     main: &mut Pass,
+    door: Door,
     listener: &mut L,
     clock: &mut C,
     random: &mut W,
@@ -71,16 +83,17 @@ pub fn hire<R: Wait, L: Listener, C: Clock, W: Random>(
 ) -> Result<(), Unhired>
     requires own { main.old.office ≡ office.now }
     ensures main { main.new ≡ record main.old { seen = main.new.seen; known = main.new.known } }
-    ensures new { AllByRecursion (λ w. IsNewPass office.now main.old.limit w.pass) workers.old.items →
-        AllByRecursion (λ w. IsNewPass office.now main.old.limit w.pass) workers.new.items }
-    ensures lent { (given : Told L.Link) →
-        Lent given (map (λ w. record { links = L.links w.listener; faults = L.listen_count w.listener }) workers.old.items)
-        (record { links = L.links listener.old; faults = L.listen_count listener.old }) →
-        Lent given (map (λ w. record { links = L.links w.listener; faults = L.listen_count w.listener }) workers.new.items)
-        (record { links = L.links listener.new; faults = L.listen_count listener.new }) }
+    ensures hired { (given : Told L.Link) (before : List (Worker L C W)) →
+        AreHired (λ l. record { links = L.links l; faults = L.listen_count l }) office.now main.old.limit door given
+        (record { links = L.links listener.old; faults = L.listen_count listener.old }) before workers.old.items →
+        AreHired (λ l. record { links = L.links l; faults = L.listen_count l }) office.now main.old.limit door given
+        (record { links = L.links listener.new; faults = L.listen_count listener.new }) before workers.new.items }
     ensures more { OnOk result (vec_len workers.new ≡ vec_len workers.old + 1) }
-    ensures fault { IsErrOf result Unhired.ListenFault → Rose (L.listen_count listener.old) (L.listen_count listener.new)
-        × (workers.new.items ≡ workers.old.items) }
+    ensures same { OnErr result (workers.new.items ≡ workers.old.items) }
+    ensures links { OnErr result (L.links listener.new ≡ L.links listener.old) }
+    ensures fault { IsErrOf result Unhired.ListenFault →
+        Rose (L.listen_count listener.old) (L.listen_count listener.new) }
+    ensures later { OnErr result (L.listen_count listener.old ≤ L.listen_count listener.new) }
 {
     let Ok(()) = workers.reserve(1) else {
         return Err(Unhired::NoMemory);
@@ -92,6 +105,7 @@ pub fn hire<R: Wait, L: Listener, C: Clock, W: Random>(
         return Err(Unhired::NoMemory);
     };
     let worker = Worker {
+        door,
         pass,
         listener: mem::replace(listener, fork),
         clock: clock.fork(),
@@ -122,37 +136,34 @@ fn add_report(crew: &mut CrewReport, report: &WorkReport)
     crew.full = report.full || crew.full;
 }
 
-/// Dismisses the workers of a door: their passes meet the first one, and each listener takes back the one behind it,
-/// so that the one that was handed in stands again where it stood.
+/// Dismisses the workers behind the first so many: their passes meet the first one, and each listener takes back the one
+/// behind it, so that the one that was handed in stands again where it stood.
 pub fn dismiss<L: Listener, C: Clock, W: Random>(
     office: &Office,
     main: &mut Pass,
     listener: &mut L,
-    workers: Vec<Worker<L, C, W>>,
+    keep: usize,
+    workers: &mut Vec<Worker<L, C, W>>,
 ) -> CrewReport
     requires main { main.old.office ≡ office.now }
-    requires own { AllByRecursion (λ w. w.pass.office ≡ office.now) workers.items }
-    ensures met { main.new ≡ record main.old {
-      seen = main.new.seen;
-      known = main.new.known;
-      ended = worker_pairs workers.items ++ main.old.ended;
-    } }
-    ensures seen { IsPrefix main.old.seen main.new.seen
-        × AllByRecursion (λ w. IsPrefix w.pass.seen main.new.seen) workers.items }
-    ensures back { TakenBack
-        (map (λ w. record { links = L.links w.listener; faults = L.listen_count w.listener }) workers.items)
+    requires own { AllByRecursion (λ w. w.pass.office ≡ office.now) workers.old.items }
+    requires keep { keep ≤ vec_len workers.old }
+    ensures dismissed { AreDismissed (λ l. record { links = L.links l; faults = L.listen_count l }) main.old main.new
         (record { links = L.links listener.old; faults = L.listen_count listener.old })
-        (record { links = L.links listener.new; faults = L.listen_count listener.new }) }
-    ensures report { result ≡ crew_report (map (λ w. w.report) workers.items) }
+        (record { links = L.links listener.new; faults = L.listen_count listener.new })
+        workers.old.items workers.new.items result }
+    ensures kept { vec_len workers.new ≡ keep }
 {
-    let mut workers = workers;
     let mut crew = CrewReport {
         starved: false,
         faulted: false,
         full: false,
     };
-    while let Some(worker) = workers.pop() {
+    while keep < workers.len() {
+        let last = workers.pop();
+        let Some(worker) = last else { unreachable!() };
         let Worker {
+            door: _,
             pass,
             listener: own,
             clock: _clock,
@@ -164,6 +175,5 @@ pub fn dismiss<L: Listener, C: Clock, W: Random>(
         listener.rejoin(fork);
         add_report(&mut crew, &report);
     }
-    workers.destroy_empty();
     crew
 }

@@ -7,8 +7,8 @@ mod words;
 mod worker;
 mod working;
 
-pub use crew::{CrewReport, Unhired, Worker, dismiss, hire};
+pub use crew::{CrewReport, Door, Unhired, Worker, dismiss};
 pub use report::{WorkEnd, WorkReport};
 pub use words::{ServeWords, WordsFault, serve_words};
 pub use worker::{LINK_BUDGET, rest_worker, smb_worker};
-pub use working::{work_rest, work_smb};
+pub use working::work;

@@ -1,10 +1,10 @@
-//! The workers of a door work at once.
+//! The workers work at once.
 ghost use Rattle.std.specs.Prelude.{◌≡◌, ◌<◌, All, ℕ, length, slice_index_or};
 ghost use Rattle.sx_book.specs.Passes.{HasOwnPlaces};
-ghost use Rattle.sx_run.specs.Crews.{HasRun};
+ghost use Rattle.sx_run.specs.Crews.{AllTwo, RunsAt};
 ghost use Rattle.sx_run.specs.Doors.{rest_talks, smb_talks};
 
-use crate::crew::Worker;
+use crate::crew::{Door, Worker};
 use crate::worker::{rest_worker, smb_worker};
 use std::alloc::Global;
 use std::sync::Wait;
@@ -14,8 +14,8 @@ use sx_base::{Clock, Listener, Random};
 use sx_book::Office;
 use sx_key::Account;
 
-/// Lets one worker of the REST door work.
-fn run_rest<R: Wait, L: Listener, C: Clock, W: Random>(
+/// Lets one worker work at its door.
+fn run<R: Wait, L: Listener, C: Clock, W: Random>(
     alloc: Global,
     rt: &R,
     office: &Office,
@@ -25,36 +25,57 @@ fn run_rest<R: Wait, L: Listener, C: Clock, W: Random>(
 )
     requires own { worker.old.pass.office ≡ office.now }
     requires places { HasOwnPlaces worker.old.pass }
-    ensures ran { HasRun (rest_talks C.ticks W.draws (record {
+    ensures ran { RunsAt
+        (rest_talks C.ticks W.draws (record {
           wrote = L.Link.wrote;
           peer = L.Link.peer_of;
           left = L.Link.left;
           reads = L.Link.read_count;
           writes = L.Link.write_count;
           calls = L.Link.calls;
-        }) account.now) conns
+        }) account.now)
+        (smb_talks C.ticks (record {
+          wrote = L.Link.wrote;
+          peer = L.Link.peer_of;
+          left = L.Link.left;
+          reads = L.Link.read_count;
+          writes = L.Link.write_count;
+          calls = L.Link.calls;
+        })) conns
         (λ w. record {
           links = L.links w.listener;
           faults = L.listen_count w.listener;
           door = record { clock = w.clock; random = w.random };
         })
+        (λ w. record { links = L.links w.listener; faults = L.listen_count w.listener; door = w.clock })
         worker.old worker.new }
 {
-    worker.report = rest_worker(
-        alloc,
-        rt,
-        office,
-        &mut worker.pass,
-        &mut worker.listener,
-        &mut worker.clock,
-        &mut worker.random,
-        account,
-        conns,
-    );
+    match worker.door {
+        Door::Rest => worker.report = rest_worker(
+            alloc,
+            rt,
+            office,
+            &mut worker.pass,
+            &mut worker.listener,
+            &mut worker.clock,
+            &mut worker.random,
+            account,
+            conns,
+        ),
+        Door::Smb => worker.report = smb_worker(
+            alloc,
+            rt,
+            office,
+            &mut worker.pass,
+            &mut worker.listener,
+            &mut worker.clock,
+            conns,
+        ),
+    }
 }
 
-/// Lets the workers of the REST door work at once, each in a thread of its own where one can be had.
-pub fn work_rest<R: Threads + Wait + Sync, L: Listener, C: Clock, W: Random>(
+/// Lets workers work at once, each in a thread of its own where one can be had.
+fn work_each<R: Threads + Wait + Sync, L: Listener, C: Clock, W: Random>(
     alloc: Global,
     rt: &R,
     office: &Office,
@@ -66,100 +87,45 @@ where
     L::Link: Send,
     requires some { 0 < length workers.old }
     requires own { All (λ w. (w.pass.office ≡ office.now) × HasOwnPlaces w.pass) workers.old }
-    ensures ran { (i : ℕ) (d : _) → i < length workers.old → HasRun (rest_talks C.ticks W.draws (record {
+    ensures ran { (i : ℕ) (d : _) → i < length workers.old → RunsAt
+        (rest_talks C.ticks W.draws (record {
           wrote = L.Link.wrote;
           peer = L.Link.peer_of;
           left = L.Link.left;
           reads = L.Link.read_count;
           writes = L.Link.write_count;
           calls = L.Link.calls;
-        }) account.now) conns
+        }) account.now)
+        (smb_talks C.ticks (record {
+          wrote = L.Link.wrote;
+          peer = L.Link.peer_of;
+          left = L.Link.left;
+          reads = L.Link.read_count;
+          writes = L.Link.write_count;
+          calls = L.Link.calls;
+        })) conns
         (λ w. record {
           links = L.links w.listener;
           faults = L.listen_count w.listener;
           door = record { clock = w.clock; random = w.random };
         })
+        (λ w. record { links = L.links w.listener; faults = L.listen_count w.listener; door = w.clock })
         (slice_index_or workers.old i d) (slice_index_or workers.new i d) }
+    ensures many { length workers.new ≡ length workers.old }
 {
     let threads = workers.len();
     thread::for_each_mut(rt, workers, threads, &|_: usize, worker: &mut Worker<L, C, W>|
         requires { (worker.old.pass.office ≡ office.now) × HasOwnPlaces worker.old.pass }
-        ensures { HasRun (rest_talks C.ticks W.draws (record {
+        ensures { RunsAt
+            (rest_talks C.ticks W.draws (record {
               wrote = L.Link.wrote;
               peer = L.Link.peer_of;
               left = L.Link.left;
               reads = L.Link.read_count;
               writes = L.Link.write_count;
               calls = L.Link.calls;
-            }) account.entry.now) conns
-            (λ w. record {
-              links = L.links w.listener;
-              faults = L.listen_count w.listener;
-              door = record { clock = w.clock; random = w.random };
-            })
-            worker.old worker.new }
-    { run_rest(alloc, rt, office, account, conns, worker) });
-}
-
-/// Lets one worker of the session door work.
-fn run_smb<R: Wait, L: Listener, C: Clock, W: Random>(
-    alloc: Global,
-    rt: &R,
-    office: &Office,
-    conns: u32,
-    worker: &mut Worker<L, C, W>,
-)
-    requires own { worker.old.pass.office ≡ office.now }
-    requires places { HasOwnPlaces worker.old.pass }
-    ensures ran { HasRun (smb_talks C.ticks (record {
-          wrote = L.Link.wrote;
-          peer = L.Link.peer_of;
-          left = L.Link.left;
-          reads = L.Link.read_count;
-          writes = L.Link.write_count;
-          calls = L.Link.calls;
-        })) conns
-        (λ w. record { links = L.links w.listener; faults = L.listen_count w.listener; door = w.clock })
-        worker.old worker.new }
-{
-    worker.report = smb_worker(
-        alloc,
-        rt,
-        office,
-        &mut worker.pass,
-        &mut worker.listener,
-        &mut worker.clock,
-        conns,
-    );
-}
-
-/// Lets the workers of the session door work at once, each in a thread of its own where one can be had.
-pub fn work_smb<R: Threads + Wait + Sync, L: Listener, C: Clock, W: Random>(
-    alloc: Global,
-    rt: &R,
-    office: &Office,
-    conns: u32,
-    workers: &mut [Worker<L, C, W>],
-)
-where
-    L::Link: Send,
-    requires some { 0 < length workers.old }
-    requires own { All (λ w. (w.pass.office ≡ office.now) × HasOwnPlaces w.pass) workers.old }
-    ensures ran { (i : ℕ) (d : _) → i < length workers.old → HasRun (smb_talks C.ticks (record {
-          wrote = L.Link.wrote;
-          peer = L.Link.peer_of;
-          left = L.Link.left;
-          reads = L.Link.read_count;
-          writes = L.Link.write_count;
-          calls = L.Link.calls;
-        })) conns
-        (λ w. record { links = L.links w.listener; faults = L.listen_count w.listener; door = w.clock })
-        (slice_index_or workers.old i d) (slice_index_or workers.new i d) }
-{
-    let threads = workers.len();
-    thread::for_each_mut(rt, workers, threads, &|_: usize, worker: &mut Worker<L, C, W>|
-        requires { (worker.old.pass.office ≡ office.now) × HasOwnPlaces worker.old.pass }
-        ensures { HasRun (smb_talks C.ticks (record {
+            }) account.entry.now)
+            (smb_talks C.ticks (record {
               wrote = L.Link.wrote;
               peer = L.Link.peer_of;
               left = L.Link.left;
@@ -167,7 +133,53 @@ where
               writes = L.Link.write_count;
               calls = L.Link.calls;
             })) conns
+            (λ w. record {
+              links = L.links w.listener;
+              faults = L.listen_count w.listener;
+              door = record { clock = w.clock; random = w.random };
+            })
             (λ w. record { links = L.links w.listener; faults = L.listen_count w.listener; door = w.clock })
             worker.old worker.new }
-    { run_smb(alloc, rt, office, conns, worker) });
+    { run(alloc, rt, office, account, conns, worker) });
+}
+
+/// Lets the workers of both doors work at once, each in a thread of its own where one can be had.
+pub fn work<R: Threads + Wait + Sync, L: Listener, C: Clock, W: Random>(
+    alloc: Global,
+    rt: &R,
+    office: &Office,
+    account: &Account,
+    conns: u32,
+    workers: &mut Vec<Worker<L, C, W>>,
+)
+where
+    L::Link: Send,
+    requires some { 0 < length workers.old.items }
+    requires own { All (λ w. (w.pass.office ≡ office.now) × HasOwnPlaces w.pass) workers.old.items }
+    ensures ran { AllTwo (RunsAt
+        (rest_talks C.ticks W.draws (record {
+          wrote = L.Link.wrote;
+          peer = L.Link.peer_of;
+          left = L.Link.left;
+          reads = L.Link.read_count;
+          writes = L.Link.write_count;
+          calls = L.Link.calls;
+        }) account.now)
+        (smb_talks C.ticks (record {
+          wrote = L.Link.wrote;
+          peer = L.Link.peer_of;
+          left = L.Link.left;
+          reads = L.Link.read_count;
+          writes = L.Link.write_count;
+          calls = L.Link.calls;
+        })) conns
+        (λ w. record {
+          links = L.links w.listener;
+          faults = L.listen_count w.listener;
+          door = record { clock = w.clock; random = w.random };
+        })
+        (λ w. record { links = L.links w.listener; faults = L.listen_count w.listener; door = w.clock }))
+        workers.old.items workers.new.items }
+{
+    work_each(alloc, rt, office, account, conns, workers.as_mut_slice());
 }
