@@ -15,7 +15,7 @@ use Rattle.sx_run.specs.declared.crew.CrewReport.{CrewReport}
 use Rattle.sx_run.specs.declared.crew.Door.{Door}
 use Rattle.sx_run.specs.declared.crew.Worker.{Worker}
 use Rattle.sx_run.specs.declared.report.WorkReport.{WorkReport}
-use Rattle.sx_run.specs.Crews.{Told, forked, AllTwo, AreDismissed, AreHired, IsNewPass, Lent, TakenBack, crew_report, worker_pairs}
+use Rattle.sx_run.specs.Crews.{Told, forked, AllTwo, AreDismissed, AreHired, Failed, FailedSince, IsNewPass, Lent, TakenBack, crew_report, worker_pairs}
 use Rattle.sx_run.proofs.Visiting.{drop_whole, prefix_both}
 
 -- a fork of a fork tells no links either
@@ -138,3 +138,27 @@ pub two_back : {A : Type 0} (P : A → A → Type 0) (xs zs ys : List A) (len : 
     → AllTwo P xs (take len (ys ++ drop (length ys) xs))
 two_back {A} P xs zs ys len value many is ran =
     subst (λ (x : List A × List A). AllTwo P x.0 x.1) (λ j. (value j, sym (back_is xs ys len (many ∙ ap length value) is) j)) (two_at P zs ys many ran)
+
+-- ---- all of a door
+-- a step that keeps who was hired, by the first pass's own limit
+pub hired_on : {L C W K : Type 0} (tell : L → Told K) (office : TableId) (p q : PassView) (door : Door) (given now next : Told K) (before all all' : List (Worker L C W)) → q ≡ record p { seen = q.seen; known = q.known }
+    → (AreHired tell office q.limit door given now before all → AreHired tell office q.limit door given next before all') → AreHired tell office p.limit door given now before all → AreHired tell office p.limit door given next before all'
+hired_on tell office p q door given now next before all all' is step h =
+    let same : q.limit ≡ p.limit = ap (λ (x : PassView). x.limit) is in
+    subst (λ (n : ℕ). AreHired tell office n door given next before all') same (step (subst (λ (n : ℕ). AreHired tell office n door given now before all) (sym same) h))
+
+-- the first pass has seen more, and knows more, step by step
+pub looked_on : (p q r : PassView) → q ≡ record p { seen = q.seen; known = q.known } → r ≡ record q { seen = r.seen; known = r.known } → r ≡ record p { seen = r.seen; known = r.known }
+looked_on p q r a b = b ∙ ap (λ (x : PassView). record x { seen = r.seen; known = r.known }) a
+
+failed_at : {K : Type 0} (given : Told K) (ts : List (Told K)) (now next : Told K) → Rose now.faults next.faults → Lent given ts now → Failed given ts next
+failed_at given [] now next rose l = let a = l.1 in omega (arith, rose, a)
+failed_at given (t ∷ ts) now next rose l = omega (arith, rose)
+
+-- the listener failed where it stood
+pub failed_since : {L C W K : Type 0} (tell : L → Told K) (office : TableId) (limit : ℕ) (door : Door) (given now next : Told K) (before all all' : List (Worker L C W)) → all' ≡ all → Rose now.faults next.faults → AreHired tell office limit door given now before all → FailedSince tell given next before all'
+failed_since tell office limit door given now next before all all' same rose h = record {
+  hired = h.hired;
+  all_are = same ∙ h.all_are;
+  failed = failed_at given (map (λ w. tell w.listener) h.hired) now next rose h.lent;
+}

@@ -1,3 +1,4 @@
 pub mod Crews
 mod NineWords
+pub mod Serving
 pub mod Visiting

@@ -1,5 +1,5 @@
 -- The workers of a door: how they are hired, work and are dismissed.
-use Rattle.std.specs.Prelude.{ℕ, ◌≡◌, ◌≤◌, ◌==◌, ◌<◌, Bool, true, false, List, [], ◌∷◌, ◌++◌, length, map, Option}
+use Rattle.std.specs.Prelude.{ℕ, ◌≡◌, ◌≤◌, ◌==◌, ◌<◌, Bool, true, false, List, [], ◌∷◌, ◌++◌, length, map, min, Option}
 use Rattle.std.specs.List.{AllByRecursion, flat_map, list_any}
 use Rattle.std.specs.Option.{option_map}
 use mathlib.Core.List.{IsPrefix}
@@ -59,6 +59,13 @@ pub record AreHired {L C W K : Type 0} (tell : L → Told K) (office : TableId) 
 abbrev pub Failed : {K : Type 0} → Told K → List (Told K) → Told K → Type 0
 Failed given [] now = Rose given.faults now.faults
 Failed given (t ∷ ts) now = 1 ≤ now.faults
+
+-- workers were hired behind those before, and a call of the listener in their place failed since
+pub record FailedSince {L C W K : Type 0} (tell : L → Told K) (given now : Told K) (before all : List (Worker L C W))
+    : Type 0 where
+  pub hired : List (Worker L C W)
+  pub all_are : all ≡ before ++ hired
+  pub failed : Failed given (map (λ w. tell w.listener) hired) now
 
 -- each listener took back the one behind it, the last that which stood in their place, and the first is what is left
 abbrev pub TakenBack : {K : Type 0} → List (Told K) → Told K → Told K → Type 0
@@ -120,3 +127,32 @@ pub record RunsAt {L C W K D E : Type 0} (rest_talks : Talks K D) (smb_talks : T
     : Type 0 where
   pub rest : old.door ≡ Rest → HasRun rest_talks conns rest_post old new
   pub smb : old.door ≡ Smb → HasRun smb_talks conns smb_post old new
+
+-- workers of both doors were hired, those of the REST door first, and no more of the session door than that has its own
+pub record AreEngaged {L C W K : Type 0} (tell : L → Told K) (office : TableId) (limit rest_workers : ℕ)
+    (given now smb_given smb_now : Told K) (all : List (Worker L C W))
+    : Type 0 where
+  pub rest : List (Worker L C W)
+  pub smb : AreHired tell office limit Smb smb_given smb_now rest all
+  pub new : AllByRecursion (λ w. IsNewPass office limit w.pass × (w.door ≡ Rest)) rest
+  pub lent : Lent given (map (λ w. tell w.listener) rest) now
+  pub cut : min (length all) rest_workers ≡ length rest
+
+-- workers of both doors were dismissed
+pub record AreAllDismissed {L C W K : Type 0} (tell : L → Told K) (main main' : PassView) (rest_workers : ℕ)
+    (now left_over smb_now smb_left : Told K) (all : List (Worker L C W)) (rest_report smb_report : CrewReport)
+    : Type 0 where
+  pub rest : List (Worker L C W)
+  pub smb : List (Worker L C W)
+  pub all_are : all ≡ rest ++ smb
+  pub cut : min (length all) rest_workers ≡ length rest
+  pub met : main' ≡ record main {
+    seen = main'.seen;
+    known = main'.known;
+    ended = worker_pairs rest ++ (worker_pairs smb ++ main.ended);
+  }
+  pub seen : AllByRecursion (λ w. IsPrefix w.pass.seen main'.seen) (rest ++ smb)
+  pub back : TakenBack (map (λ w. tell w.listener) rest) now left_over
+  pub smb_back : TakenBack (map (λ w. tell w.listener) smb) smb_now smb_left
+  pub report_is : rest_report ≡ crew_report (map (λ w. w.report) rest)
+  pub smb_is : smb_report ≡ crew_report (map (λ w. w.report) smb)

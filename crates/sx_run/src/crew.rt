@@ -2,7 +2,7 @@
 ghost use Rattle.std.specs.Prelude.{◌≡◌, ◌+◌, ◌≤◌, ◌∷◌, List, IsErrOf, OnOk, OnErr, vec_len};
 ghost use Rattle.std.specs.List.{AllByRecursion};
 ghost use Rattle.sx_base.specs.Causes.{Rose};
-ghost use Rattle.sx_run.specs.Crews.{AreDismissed, AreHired, Told, crew_report, is_faulted, no_work};
+ghost use Rattle.sx_run.specs.Crews.{AreDismissed, AreHired, FailedSince, Told, crew_report, is_faulted, no_work};
 ghost use Rattle.sx_run.specs.declared.report.WorkReport.{WorkReport};
 ghost use Rattle.sx_run.specs.declared.crew.Worker.{Worker};
 ghost use Rattle.sx_run.specs.declared.crew.Unhired.TheVariants as Unhired;
@@ -114,6 +114,43 @@ fn hire<R: Wait, L: Listener, C: Clock, W: Random>(
     };
     let pushed = workers.push(worker);
     let Ok(()) = pushed else { unreachable!() };
+    Ok(())
+}
+
+/// Hires so many workers of a door.
+pub fn hire_all<R: Wait, L: Listener, C: Clock, W: Random>(
+    rt: &R,
+    office: &Office,
+    main: &mut Pass,
+    door: Door,
+    listener: &mut L,
+    clock: &mut C,
+    random: &mut W,
+    count: u32,
+    workers: &mut Vec<Worker<L, C, W>>,
+) -> Result<(), Unhired>
+    requires own { main.old.office ≡ office.now }
+    ensures main { main.new ≡ record main.old { seen = main.new.seen; known = main.new.known } }
+    ensures hired { (given : Told L.Link) (before : List (Worker L C W)) →
+        AreHired (λ l. record { links = L.links l; faults = L.listen_count l }) office.now main.old.limit door given
+        (record { links = L.links listener.old; faults = L.listen_count listener.old }) before workers.old.items →
+        AreHired (λ l. record { links = L.links l; faults = L.listen_count l }) office.now main.old.limit door given
+        (record { links = L.links listener.new; faults = L.listen_count listener.new }) before workers.new.items }
+    ensures more { OnOk result (vec_len workers.new ≡ vec_len workers.old + count) }
+    ensures few { vec_len workers.new ≤ vec_len workers.old + count }
+    ensures fault { IsErrOf result Unhired.ListenFault → (given : Told L.Link) (before : List (Worker L C W)) →
+        AreHired (λ l. record { links = L.links l; faults = L.listen_count l }) office.now main.old.limit door given
+        (record { links = L.links listener.old; faults = L.listen_count listener.old }) before workers.old.items →
+        FailedSince (λ l. record { links = L.links l; faults = L.listen_count l }) given
+        (record { links = L.links listener.new; faults = L.listen_count listener.new }) before workers.new.items }
+{
+    let mut left = count;
+    while 0 < left {
+        match hire(rt, office, main, door, listener, clock, random, workers) {
+            Ok(()) => left -= 1,
+            Err(unhired) => return Err(unhired),
+        }
+    }
     Ok(())
 }
 

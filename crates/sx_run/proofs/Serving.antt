@@ -1,0 +1,142 @@
+-- What workers did in the one history of the office that was closed.
+use Rattle.std.proofs.Common.{ℕ, zero, suc, ◌+◌, ◌-◌, ◌^◌, ◌<◌, ◌≤◌, ◌≡◌, ◌≢◌, ◌||◌, ◌==◌, if◌then◌else◌, Bool, true, false, min, List, [], ◌∷◌, ◌++◌, length, map, take, drop, Option, Some, None, refl, sym, ap, ◌∙◌, subst, arith, append_assoc, append-nil, length-append}
+use Rattle.std.specs.List.{AllByRecursion, list_any}
+use Rattle.std.proofs.Math.Seq.{take-append_seam}
+use Rattle.std.proofs.lemmas.Bool.Decides.{nat_tests}
+use mathlib.Core.List.{IsPrefix}
+use Rattle.sx_base.specs.Causes.{Rose, TakesOver}
+use Rattle.sx_base.specs.LinkLists.{Links}
+use Rattle.sx_call.specs.declared.entries.Noted.{Noted}
+use Rattle.sx_turn.specs.Places.{places, places_from, times}
+use Rattle.sx_turn.specs.Seats.{TableId}
+use Rattle.sx_turn.proofs.Lists.{each_map, none_left, prefix_length}
+use Rattle.sx_turn.proofs.Places.{places_append}
+use Rattle.sx_book.specs.Passes.{PassView, caller_of, pass_pairs}
+use Rattle.sx_run.specs.declared.crew.Worker.{Worker}
+use Rattle.sx_run.specs.declared.report.WorkEnd.{WorkEnd}
+use Rattle.sx_run.specs.declared.report.WorkEnd.TheVariants.{Enough, Drained, ListenFault}
+use Rattle.sx_run.specs.declared.report.WorkReport.{WorkReport}
+use Rattle.sx_run.specs.Crews.{Told, AllTwo, HasRun, IsNewPass, Lent, TakenBack, forked, is_faulted, worker_pairs}
+use Rattle.sx_run.specs.Serving.{Shift, HasWorked, IsCrew, reports_of, workers_of}
+use Rattle.sx_run.specs.Visits.{HasNone, Post, Stretch, Talks, Works}
+use Rattle.sx_run.proofs.Visiting.{stretch, visits_grow}
+
+-- a caller without places has no entry
+no_entry : (n k : ℕ) (log : List Noted) → places_from caller_of n k log ≡ [] → HasNone n log
+no_entry n k [] e = tt
+no_entry n k (x ∷ xs) e =
+    elim (n == x.entry.who) as (λ b. (n == x.entry.who) ≡ b → (if b then k ∷ [] else []) ++ places_from caller_of n (k + 1) xs ≡ [] → HasNone n (x ∷ xs)) [
+      | true ↦ λ t g. absurd (cc g)
+      | false ↦ λ t g. ((λ is. let yes : (n == x.entry.who) ≡ true = grind (arith, nat_tests) in absurd (cc (yes, t))), no_entry n (k + 1) xs g)
+    ] refl e
+
+-- where a caller's places in a list are all in its beginning, it has no entry behind that
+none_behind : (n : ℕ) (seen rest : List Noted) → places caller_of n seen ≡ places caller_of n (seen ++ rest) → HasNone n rest
+none_behind n seen rest e =
+    let whole : places caller_of n (seen ++ rest) ≡ places caller_of n seen ++ places_from caller_of n (1 + length seen) rest = places_append caller_of n 1 seen rest in
+    no_entry n (1 + length seen) rest (none_left (places caller_of n seen) (places_from caller_of n (1 + length seen) rest) (ap length (sym (e ∙ whole))))
+
+-- a worker's work is its work in each history that goes on by others' entries
+works_grow : {K D : Type 0} (talks : Talks K D) (who limit from conns : ℕ) (h more : List Noted) (old new : Post K D) (report : WorkReport) → from ≤ length h → HasNone who more → Works talks (stretch who limit h from) conns old new report
+    → Works talks (stretch who limit (h ++ more) from) conns old new report
+works_grow talks who limit from conns h more old new report l none w = record {
+  visits = w.visits;
+  served = visits_grow talks who limit h more from old.door w.visits new.door l none w.served;
+  links = w.links;
+  count = w.count;
+  full = w.full;
+  starved = w.starved;
+  end = w.end;
+  later = w.later;
+  cause = w.cause;
+}
+
+-- a worker, by its number and its report
+abbrev pub shift_of : {L C W : Type 0} → Worker L C W → Shift
+shift_of w = record { who = w.pass.number; report = w.report }
+
+module _ {L C W K D : Type 0} (talks : Talks K D) (tell : L → Told K) (post : Worker L C W → Post K D) (conns : ℕ) (post_links : (w : Worker L C W) → (post w).links ≡ (tell w.listener).links) (office : TableId) (limit : ℕ) (log : List Noted) where
+  -- a worker's pass has all of its entries in the whole history
+  abbrev pub HasAll : Worker L C W → Type 0
+  HasAll w = IsPrefix w.pass.seen log × (w.pass.mine ≡ places caller_of w.pass.number log)
+
+  pub worked_by : (w u : Worker L C W) → IsNewPass office limit w.pass → HasRun talks conns post w u → HasAll u → HasWorked talks (record { entries = log; limit = limit }) conns (tell w.listener).links (tell u.listener).links (shift_of u)
+  worked_by w u new run all =
+      let p : PassView = w.pass in let q : PassView = u.pass in
+      let number : q.number ≡ p.number = ap (λ (x : PassView). x.number) run.pass in
+      let bound : q.limit ≡ limit = ap (λ (x : PassView). x.limit) run.pass ∙ new.limit_is in
+      let rest : List Noted = all.0.0 in
+      let whole : q.seen ++ rest ≡ log = all.0.1 in
+      let none : HasNone q.number rest = none_behind q.number q.seen rest (sym run.places ∙ (all.1 ∙ ap (places caller_of q.number) (sym whole))) in
+      let front : take (length p.seen) log ≡ p.seen = ap (take (length p.seen)) (sym (sym (append_assoc p.seen run.grown.0 rest) ∙ (ap (λ (t : List Noted). t ++ rest) run.grown.1 ∙ whole))) ∙ take-append_seam p.seen (run.grown.0 ++ rest) in
+      let few : length p.seen ≤ length q.seen = prefix_length p.seen q.seen run.grown in
+      let mine : Works talks (stretch q.number limit q.seen (length p.seen)) conns (post w) (post u) u.report =
+      subst (λ (x : ℕ × ℕ). Works talks (stretch x.0 x.1 q.seen (length p.seen)) conns (post w) (post u) u.report) (λ j. (sym number j, bound j)) run.works in
+      record {
+        from = length p.seen;
+        unknown = subst (HasNone q.number) (sym front) (subst (λ (n : ℕ). HasNone n p.seen) (sym number) new.unknown);
+        old = post w;
+        new = post u;
+        given_is = post_links w;
+        left_is = post_links u;
+        works = subst (λ (t : List Noted). Works talks (stretch q.number limit t (length p.seen)) conns (post w) (post u) u.report) whole
+            (works_grow talks q.number limit (length p.seen) conns q.seen rest (post w) (post u) u.report few none mine);
+      }
+
+  -- workers on forks
+  forks_by : (given : Told K) (ws us : List (Worker L C W)) → AllByRecursion (λ t. t.links ≡ forked given.links) (map (λ w. tell w.listener) ws) → AllByRecursion (λ w. IsNewPass office limit w.pass) ws → AllTwo (HasRun talks conns post) ws us → AllByRecursion HasAll us
+      → AllByRecursion (λ t. (left : Option (Links K)) × HasWorked talks (record { entries = log; limit = limit }) conns (forked given.links) left t) (map shift_of us)
+  forks_by given [] [] links new run all = tt
+  forks_by given [] (u ∷ us) links new run all = absurd run
+  forks_by given (w ∷ ws) [] links new run all = absurd run
+  forks_by given (w ∷ ws) (u ∷ us) links new run all = (
+    ((tell u.listener).links, subst (λ (o : Option (Links K)). HasWorked talks (record { entries = log; limit = limit }) conns o (tell u.listener).links (shift_of u)) links.0 (worked_by w u new.0 run.0 all.0)),
+    forks_by given ws us links.1 new.1 run.1 all.1,
+  )
+
+  -- the workers of a door
+  pub crew_by : (given now now' final : Told K) (ws us : List (Worker L C W)) → 1 ≤ length ws → Lent given (map (λ w. tell w.listener) ws) now → AllByRecursion (λ w. IsNewPass office limit w.pass) ws → AllTwo (HasRun talks conns post) ws us
+      → AllByRecursion HasAll us → TakenBack (map (λ w. tell w.listener) us) now' final → IsCrew talks (record { entries = log; limit = limit }) conns given final (map shift_of us)
+  crew_by given now now' final [] us some lent new run all back = absurd (omega (arith, some))
+  crew_by given now now' final (w ∷ ws) [] some lent new run all back = absurd run
+  crew_by given now now' final (w ∷ ws) (u ∷ us) some lent new run all back = (
+    subst (λ (o : Option (Links K) × Option (Links K)). HasWorked talks (record { entries = log; limit = limit }) conns o.0 o.1 (shift_of u)) (λ j. (lent.0 j, sym back.3 j)) (worked_by w u new.0 run.0 all.0),
+    forks_by given ws us lent.2 new.1 run.1 all.1,
+  )
+
+  -- ---- faults
+  module _ (post_faults : (w : Worker L C W) → (post w).faults ≡ (tell w.listener).faults) where
+    faulted_is : (end : WorkEnd) → is_faulted end ≡ true → end ≡ ListenFault
+    faulted_is Enough e = cc e
+    faulted_is Drained e = cc e
+    faulted_is ListenFault e = refl
+
+    one_of : (a b : Bool) (P : Type 0) → (a ≡ true → P) → (b ≡ true → P) → (a || b) ≡ true → P
+    one_of true b P f g e = f refl
+    one_of false b P f g e = g e
+
+    rose_by : (w u : Worker L C W) → HasRun talks conns post w u → is_faulted u.report.end ≡ true → Rose (tell w.listener).faults (tell u.listener).faults
+    rose_by w u run e = subst (λ (x : ℕ × ℕ). Rose x.0 x.1) (λ j. (post_faults w j, post_faults u j)) (run.works.cause (faulted_is u.report.end e))
+
+    later_by : (w u : Worker L C W) → HasRun talks conns post w u → (tell w.listener).faults ≤ (tell u.listener).faults
+    later_by w u run = subst (λ (x : ℕ × ℕ). x.0 ≤ x.1) (λ j. (post_faults w j, post_faults u j)) run.works.later
+
+    forks_faulted : (now final : Told K) (ws us : List (Worker L C W)) → AllTwo (HasRun talks conns post) ws us → TakenBack (map (λ w. tell w.listener) us) now final → list_any (λ r. is_faulted r.end) (map (λ w. w.report) us) ≡ true → 1 ≤ final.faults
+    forks_faulted now final [] [] run back e = cc e
+    forks_faulted now final [] (u ∷ us) run back e = absurd run
+    forks_faulted now final (w ∷ ws) [] run back e = absurd run
+    forks_faulted now final (w ∷ ws) (u ∷ us) run back e =
+        one_of (is_faulted u.report.end) (list_any (λ r. is_faulted r.end) (map (λ w. w.report) us)) (1 ≤ final.faults)
+        (λ own. let r = rose_by w u run.0 own in let l = back.2.later in omega (arith, r, l))
+        (λ others. let f = forks_faulted now back.0 ws us run.1 back.1 others in let r = back.2.rose (omega (arith, f)) in omega (arith, r)) e
+
+    pub crew_faulted : (given now now' final : Told K) (ws us : List (Worker L C W)) → Lent given (map (λ w. tell w.listener) ws) now → AllTwo (HasRun talks conns post) ws us → TakenBack (map (λ w. tell w.listener) us) now' final
+        → list_any (λ r. is_faulted r.end) (map (λ w. w.report) us) ≡ true → Rose given.faults final.faults
+    crew_faulted given now now' final [] [] lent run back e = cc e
+    crew_faulted given now now' final [] (u ∷ us) lent run back e = absurd run
+    crew_faulted given now now' final (w ∷ ws) [] lent run back e = absurd run
+    crew_faulted given now now' final (w ∷ ws) (u ∷ us) lent run back e =
+        let begun = lent.1 in let worked = later_by w u run.0 in
+        one_of (is_faulted u.report.end) (list_any (λ r. is_faulted r.end) (map (λ w. w.report) us)) (Rose given.faults final.faults)
+        (λ own. let r = rose_by w u run.0 own in let l = back.2.later in omega (arith, begun, r, l))
+        (λ others. let f = forks_faulted now' back.0 ws us run.1 back.1 others in let r = back.2.rose (omega (arith, f)) in omega (arith, begun, worked, r)) e
