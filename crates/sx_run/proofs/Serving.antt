@@ -9,17 +9,20 @@ use Rattle.sx_base.specs.LinkLists.{Links}
 use Rattle.sx_call.specs.declared.entries.Noted.{Noted}
 use Rattle.sx_turn.specs.Places.{places, places_from, times}
 use Rattle.sx_turn.specs.Seats.{TableId}
-use Rattle.sx_turn.proofs.Lists.{each_map, none_left, prefix_length}
+use Rattle.sx_turn.proofs.Lists.{each_append, each_map, none_left, prefix_length}
 use Rattle.sx_turn.proofs.Places.{places_append}
 use Rattle.sx_book.specs.Passes.{PassView, caller_of, pass_pairs}
+use Rattle.sx_run.specs.declared.crew.CrewReport.{CrewReport}
+use Rattle.sx_run.specs.declared.crew.Door.{Door}
+use Rattle.sx_run.specs.declared.crew.Door.TheVariants.{Rest, Smb}
 use Rattle.sx_run.specs.declared.crew.Worker.{Worker}
 use Rattle.sx_run.specs.declared.report.WorkEnd.{WorkEnd}
 use Rattle.sx_run.specs.declared.report.WorkEnd.TheVariants.{Enough, Drained, ListenFault}
 use Rattle.sx_run.specs.declared.report.WorkReport.{WorkReport}
-use Rattle.sx_run.specs.Crews.{Told, AllTwo, HasRun, IsNewPass, Lent, TakenBack, forked, is_faulted, worker_pairs}
+use Rattle.sx_run.specs.Crews.{Told, AllTwo, AreAllDismissed, AreDismissed, AreEngaged, AreHired, HasRun, IsNewPass, Lent, TakenBack, forked, is_faulted, worker_pairs}
 use Rattle.sx_run.specs.Serving.{Shift, HasWorked, IsCrew, reports_of, workers_of}
 use Rattle.sx_run.specs.Visits.{HasNone, Post, Stretch, Talks, Works}
-use Rattle.sx_run.proofs.Visiting.{stretch, visits_grow}
+use Rattle.sx_run.proofs.Visiting.{prefix_both, stretch, visits_grow}
 
 -- a caller without places has no entry
 no_entry : (n k : ℕ) (log : List Noted) → places_from caller_of n k log ≡ [] → HasNone n log
@@ -140,3 +143,56 @@ module _ {L C W K D : Type 0} (talks : Talks K D) (tell : L → Told K) (post : 
         one_of (is_faulted u.report.end) (list_any (λ r. is_faulted r.end) (map (λ w. w.report) us)) (Rose given.faults final.faults)
         (λ own. let r = rose_by w u run.0 own in let l = back.2.later in omega (arith, begun, r, l))
         (λ others. let f = forks_faulted now' back.0 ws us run.1 back.1 others in let r = back.2.rose (omega (arith, f)) in omega (arith, begun, worked, r)) e
+
+-- ---- workers of both doors
+no_items : {A : Type 0} (xs : List A) → length xs ≡ 0 → xs ≡ []
+no_items [] e = refl
+no_items (x ∷ xs) e = cc e
+
+-- those of the session door were dismissed, then those of the REST door
+pub dismissed_all : {L C W K : Type 0} (tell : L → Told K) (p0 p1 p2 : PassView) (n : ℕ) (now left smb_now smb_left : Told K) (all mid end : List (Worker L C W)) (rest_report smb_report : CrewReport)
+    → AreDismissed tell p0 p1 smb_now smb_left all mid smb_report → AreDismissed tell p1 p2 now left mid end rest_report → length end ≡ 0 → length mid ≡ min (length all) n
+    → AreAllDismissed tell p0 p2 n now left smb_now smb_left all rest_report smb_report
+dismissed_all {L} {C} {W} tell p0 p1 p2 n now left smb_now smb_left all mid end rest_report smb_report s r none cut =
+    let rest_is : mid ≡ r.gone = r.all_are ∙ ap (λ (e : List (Worker L C W)). e ++ r.gone) (no_items end none) in
+    let ends : p2.ended ≡ worker_pairs r.gone ++ (worker_pairs s.gone ++ p0.ended) = ap (λ (p : PassView). p.ended) r.met ∙ ap (λ (p : PassView). worker_pairs r.gone ++ p.ended) s.met in
+    record {
+      rest = r.gone;
+      smb = s.gone;
+      all_are = s.all_are ∙ ap (λ (t : List (Worker L C W)). t ++ s.gone) rest_is;
+      cut = sym cut ∙ ap length rest_is;
+      met = r.met ∙ ap (λ (x : PassView × List (ℕ × List ℕ)). record x.0 { seen = p2.seen; known = p2.known; ended = x.1 }) (λ j. (s.met j, (sym (ap (λ (p : PassView). p.ended) r.met) ∙ ends) j));
+      seen = each_append (λ w. IsPrefix w.pass.seen p2.seen) r.gone s.gone r.seen (each_map _ _ (λ w q. prefix_both w.pass.seen p1.seen p2.seen q r.grown) s.gone s.seen);
+      back = r.back;
+      smb_back = s.back;
+      report_is = r.report_is;
+      smb_is = s.report_is;
+    }
+
+-- no worker, and none hired
+pub hired_none : {L C W K : Type 0} (tell : L → Told K) (office : TableId) (limit : ℕ) (door : Door) (now : Told K) (before : List (Worker L C W)) → AreHired tell office limit door now now before before
+hired_none {L} {C} {W} tell office limit door now before = record { hired = []; all_are = sym (append-nil before); new = tt; lent = (refl, omega arith) }
+
+-- those of the REST door alone were hired, no more than it has
+pub engaged_rest : {L C W K : Type 0} (tell : L → Told K) (office : TableId) (limit n : ℕ) (given now smb : Told K) (all : List (Worker L C W)) → AreHired tell office limit Rest given now [] all → length all ≤ n → AreEngaged tell office limit n given now smb smb all
+engaged_rest {L} {C} {W} tell office limit n given now smb all h few = record {
+  rest = all;
+  smb = hired_none tell office limit Smb smb all;
+  new = subst (λ (ws : List (Worker L C W)). AllByRecursion (λ w. IsNewPass office limit w.pass × (w.door ≡ Rest)) ws) (sym h.all_are) h.new;
+  lent = subst (λ (ws : List (Worker L C W)). Lent given (map (λ w. tell w.listener) ws) now) (sym h.all_are) h.lent;
+  cut = omega (arith, few);
+}
+
+-- behind all those of the REST door, those of the session door were hired
+pub engaged_both : {L C W K : Type 0} (tell : L → Told K) (office : TableId) (limit n : ℕ) (given now smb_given smb_now : Told K) (rest all : List (Worker L C W)) → AreHired tell office limit Rest given now [] rest → length rest ≡ n
+    → (AreHired tell office limit Smb smb_given smb_given rest rest → AreHired tell office limit Smb smb_given smb_now rest all) → AreEngaged tell office limit n given now smb_given smb_now all
+engaged_both {L} {C} {W} tell office limit n given now smb_given smb_now rest all h many step =
+    let smb : AreHired tell office limit Smb smb_given smb_now rest all = step (hired_none tell office limit Smb smb_given rest) in
+    let count : length all ≡ length rest + length smb.hired = ap length smb.all_are ∙ length-append rest smb.hired in
+    record {
+      rest = rest;
+      smb = smb;
+      new = subst (λ (ws : List (Worker L C W)). AllByRecursion (λ w. IsNewPass office limit w.pass × (w.door ≡ Rest)) ws) (sym h.all_are) h.new;
+      lent = subst (λ (ws : List (Worker L C W)). Lent given (map (λ w. tell w.listener) ws) now) (sym h.all_are) h.lent;
+      cut = omega (arith, count, many);
+    }
