@@ -1,5 +1,5 @@
 -- What workers did in the one history of the office that was closed.
-use Rattle.std.proofs.Common.{ℕ, zero, suc, ◌+◌, ◌-◌, ◌^◌, ◌<◌, ◌≤◌, ◌≡◌, ◌≢◌, ◌||◌, ◌==◌, if◌then◌else◌, Bool, true, false, min, List, [], ◌∷◌, ◌++◌, length, map, take, drop, Option, Some, None, refl, sym, ap, ◌∙◌, subst, arith, append_assoc, append-nil, length-append}
+use Rattle.std.proofs.Common.{ℕ, zero, suc, ◌+◌, ◌-◌, ◌^◌, ◌<◌, ◌≤◌, ◌≡◌, ◌≢◌, ◌||◌, ◌==◌, if◌then◌else◌, Bool, true, false, min, List, [], ◌∷◌, ◌++◌, length, map, take, drop, Option, Some, None, refl, sym, ap, ◌∙◌, subst, arith, append_assoc, append-nil, length-append, inl, inr}
 use Rattle.std.specs.List.{AllByRecursion, list_any}
 use Rattle.std.proofs.Math.Seq.{take-append_seam}
 use Rattle.std.proofs.lemmas.Bool.Decides.{nat_tests}
@@ -19,8 +19,8 @@ use Rattle.sx_run.specs.declared.crew.Worker.{Worker}
 use Rattle.sx_run.specs.declared.report.WorkEnd.{WorkEnd}
 use Rattle.sx_run.specs.declared.report.WorkEnd.TheVariants.{Enough, Drained, ListenFault}
 use Rattle.sx_run.specs.declared.report.WorkReport.{WorkReport}
-use Rattle.sx_run.specs.Crews.{Told, AllTwo, AreAllDismissed, AreDismissed, AreEngaged, AreHired, HasRun, IsNewPass, Lent, TakenBack, forked, is_faulted, worker_pairs}
-use Rattle.sx_run.specs.Serving.{Shift, HasWorked, IsCrew, reports_of, workers_of}
+use Rattle.sx_run.specs.Crews.{Told, AllTwo, AreAllDismissed, AreDismissed, AreEngaged, AreHired, Failed, FailedSince, HasRun, IsNewPass, Lent, TakenBack, forked, is_faulted, worker_pairs}
+use Rattle.sx_run.specs.Serving.{HasFailed, Shift, HasWorked, IsCrew, reports_of, workers_of}
 use Rattle.sx_run.specs.Visits.{HasNone, Post, Stretch, Talks, Works}
 use Rattle.sx_run.proofs.Visiting.{prefix_both, stretch, visits_grow}
 
@@ -196,3 +196,49 @@ engaged_both {L} {C} {W} tell office limit n given now smb_given smb_now rest al
       lent = subst (λ (ws : List (Worker L C W)). Lent given (map (λ w. tell w.listener) ws) now) (sym h.all_are) h.lent;
       cut = omega (arith, count, many);
     }
+
+-- ---- a call of a listener that failed before any work
+-- lists of one length in equal wholes are equal
+pub split_same : {A : Type 0} (xs ys zs ws : List A) → xs ++ ys ≡ zs ++ ws → length xs ≡ length zs → (xs ≡ zs) × (ys ≡ ws)
+split_same [] ys [] ws e l = (refl, e)
+split_same [] ys (z ∷ zs) ws e l = cc l
+split_same (x ∷ xs) ys [] ws e l = cc l
+split_same {A} (x ∷ xs) ys (z ∷ zs) ws e l =
+    let heads : x ≡ z = cc e in
+    let tails : xs ++ ys ≡ zs ++ ws = cc e in
+    let rest = split_same xs ys zs ws tails (omega (arith, l)) in
+    (ap (λ (p : A × List A). p.0 ∷ p.1) (λ j. (heads j, rest.0 j)), rest.1)
+
+-- where the fork in the workers' place failed, what took it back tells so
+up_back : {K : Type 0} (ts : List (Told K)) (now next : Told K) → TakenBack ts now next → 1 ≤ now.faults → 1 ≤ next.faults
+up_back [] now next back some = subst (λ (n : ℕ). 1 ≤ n) (sym (ap (λ (t : Told _). t.faults) back)) some
+up_back (t ∷ ts) now next back some = let f = up_back ts now back.0 back.1 some in let r = back.2.rose (omega (arith, f)) in omega (arith, r)
+
+pub failed_back : {K : Type 0} (given : Told K) (ts : List (Told K)) (now final : Told K) → Failed given ts now → Lent given ts now → TakenBack ts now final → Rose given.faults final.faults
+failed_back {K} given [] now final failed lent back = subst (λ (t : Told K). Rose given.faults t.faults) (sym back) failed
+failed_back given (t ∷ ts) now final failed lent back = let f = up_back ts now back.0 back.1 failed in let r = back.2.rose (omega (arith, f)) in let begun = lent.1 in omega (arith, begun, r)
+
+-- without work, the links are as they were
+pub links_back : {K : Type 0} (given : Told K) (ts : List (Told K)) (now final : Told K) → Lent given ts now → TakenBack ts now final → final.links ≡ given.links
+links_back given [] now final lent back = ap (λ (t : Told _). t.links) back ∙ lent.0
+links_back given (t ∷ ts) now final lent back = back.3 ∙ lent.0
+
+-- a failure while those of the REST door were hired
+pub failed_rest : {L C W K : Type 0} (tell : L → Told K) (n : ℕ) (given now smb_given smb_now : Told K) (all : List (Worker L C W)) → FailedSince tell given now [] all → length all ≤ n → HasFailed tell n given now smb_given smb_now all
+failed_rest tell n given now smb_given smb_now all f few = record {
+  rest = f.hired;
+  smb = [];
+  all_are = f.all_are ∙ sym (append-nil f.hired);
+  cut = (let e : length all ≡ length f.hired = ap length f.all_are in omega (arith, few, e));
+  failed = inl f.failed;
+}
+
+-- a failure while those of the session door were hired, behind those of the REST door
+pub failed_smb : {L C W K : Type 0} (tell : L → Told K) (n : ℕ) (given now smb_given smb_now : Told K) (rest all : List (Worker L C W)) → FailedSince tell smb_given smb_now rest all → length rest ≡ n → HasFailed tell n given now smb_given smb_now all
+failed_smb tell n given now smb_given smb_now rest all f many = record {
+  rest = rest;
+  smb = f.hired;
+  all_are = f.all_are;
+  cut = (let e : length all ≡ length rest + length f.hired = ap length f.all_are ∙ length-append rest f.hired in omega (arith, many, e));
+  failed = inr f.failed;
+}

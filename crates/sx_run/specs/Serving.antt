@@ -1,18 +1,21 @@
 -- The whole service: two listeners, one office that is opened and closed, and workers of both doors at once.
-use Rattle.std.specs.Prelude.{ℕ, ◌+◌, ◌≡◌, ◌≤◌, ◌==◌, ◌⊎◌, ◌||◌, if◌then◌else◌, Bool, true, false, List, [], ◌∷◌, ◌++◌, length, map, take, codes, decimal, Option}
+use Rattle.std.specs.Prelude.{ℕ, ◌+◌, ◌≡◌, ◌≤◌, ◌==◌, ◌⊎◌, ◌||◌, if◌then◌else◌, Bool, true, false, List, [], ◌∷◌, ◌++◌, length, map, min, take, codes, decimal, Option}
 use Rattle.std.specs.List.{AllByRecursion}
 use Rattle.sx_base.specs.Causes.{Rose}
 use Rattle.sx_base.specs.LinkLists.{Links}
 use Rattle.sx_call.specs.declared.entries.Noted.{Noted}
 use Rattle.sx_spec.specs.History.{IsHistory}
 use Rattle.sx_book.specs.History.{History}
-use Rattle.sx_book.specs.Passes.{caller_of}
+use Rattle.sx_book.specs.Passes.{PassView, caller_of, HasExactPlaces, OwnsAllNumbers, OwnsEachSeen}
 use Rattle.sx_smb_door.specs.Conversation.{HasText, HasPrefix}
 use Rattle.sx_run.specs.declared.crew.CrewReport.{CrewReport}
 use Rattle.sx_run.specs.declared.report.WorkReport.{WorkReport}
+use Rattle.sx_run.specs.declared.serve.Unserved.{Unserved}
+use Rattle.sx_run.specs.declared.serve.Unserved.TheVariants.{WriteFault, NoMemory, ListenFault}
 use Rattle.sx_run.specs.declared.words.ServeWords.{ServeWords}
 use Rattle.sx_run.specs.Visits.{HasNone, Post, Talks, Works}
-use Rattle.sx_run.specs.Crews.{Told, crew_report, forked}
+use Rattle.sx_run.specs.declared.crew.Worker.{Worker}
+use Rattle.sx_run.specs.Crews.{Failed, Told, crew_report, forked}
 
 -- a worker: its number, by which its entries are known, and its report
 pub record Shift : Type 0 where
@@ -113,21 +116,30 @@ pub record IsUnclosed {K : Type 0} (wrote wrote' : List ℕ → Type 0) (old new
   pub kept : new.writes ≡ old.writes
   pub status_is : status ≡ 5
 
--- why no link was served: no memory was left, or the office gave no pass; a call of a listener failed; or the ports
--- could not be told
-abbrev pub IsUnservedBy : {K : Type 0} → (List ℕ → Type 0) → (List ℕ → Type 0) → Outside K → Outside K → ℕ → Type 0
-IsUnservedBy wrote wrote' old new status =
-    ((status ≡ 5) × HasText wrote wrote' [])
-    ⊎ ((status ≡ 6) × (Rose old.rest.faults new.rest.faults ⊎ Rose old.smb.faults new.smb.faults)
-    × HasText wrote wrote' [])
-    ⊎ ((status ≡ 4) × Rose old.writes new.writes
-    × ((rest_port : ℕ) × (smb_port : ℕ) × HasPrefix wrote wrote' (port_lines rest_port smb_port)))
+-- the status where no link was served
+abbrev pub status_unserved : Unserved → ℕ
+status_unserved WriteFault = 4
+status_unserved NoMemory = 5
+status_unserved ListenFault = 6
+
+-- why no link was served: the ports could not be told; no memory was left, or the office gave no pass; or a call of a
+-- listener failed
+abbrev pub IsUnservedBy : {K : Type 0} → Unserved → (List ℕ → Type 0) → (List ℕ → Type 0) → Outside K → Outside K
+    → Type 0
+IsUnservedBy WriteFault wrote wrote' old new =
+    Rose old.writes new.writes
+    × ((rest_port : ℕ) × (smb_port : ℕ) × HasPrefix wrote wrote' (port_lines rest_port smb_port))
+IsUnservedBy NoMemory wrote wrote' old new = HasText wrote wrote' []
+IsUnservedBy ListenFault wrote wrote' old new =
+    (Rose old.rest.faults new.rest.faults ⊎ Rose old.smb.faults new.smb.faults) × HasText wrote wrote' []
 
 -- no link was given by a listener, and the history has no entry
 pub record IsUnserved {K : Type 0} (wrote wrote' : List ℕ → Type 0) (old new : Outside K) (status : ℕ) : Type 0 where
   pub rest_same : new.rest.links ≡ old.rest.links
   pub smb_same : new.smb.links ≡ old.smb.links
-  pub cause : IsUnservedBy wrote wrote' old new status
+  pub unserved : Unserved
+  pub cause : IsUnservedBy unserved wrote wrote' old new
+  pub status_is : status ≡ status_unserved unserved
 
 -- what the service does
 abbrev pub Serves : {K D E : Type 0} → Talks K D → Talks K E → ServeWords → (List ℕ → Type 0) → (List ℕ → Type 0)
@@ -135,3 +147,30 @@ abbrev pub Serves : {K D E : Type 0} → Talks K D → Talks K E → ServeWords 
 Serves rest_talks smb_talks serve wrote wrote' old new status =
     HasServed rest_talks smb_talks serve wrote wrote' old new status ⊎ IsUnclosed wrote wrote' old new status
     ⊎ IsUnserved wrote wrote' old new status
+
+-- ---- how the service is begun and ended, for its parts
+
+-- what an office's close tells of the pass that closed it
+abbrev pub IsAllMet : PassView → Type 0
+IsAllMet p = OwnsAllNumbers p × OwnsEachSeen p × HasExactPlaces p
+
+-- workers of both doors were hired, those of the REST door first, and a call of a listener failed since
+pub record HasFailed {L C W K : Type 0} (tell : L → Told K) (rest_workers : ℕ) (given now smb_given smb_now : Told K)
+    (all : List (Worker L C W))
+    : Type 0 where
+  pub rest : List (Worker L C W)
+  pub smb : List (Worker L C W)
+  pub all_are : all ≡ rest ++ smb
+  pub cut : min (length all) rest_workers ≡ length rest
+  pub failed : Failed given (map (λ w. tell w.listener) rest) now
+      ⊎ Failed smb_given (map (λ w. tell w.listener) smb) smb_now
+
+-- why the service could not begin, before its workers are dismissed
+abbrev pub IsUnreadyBy : {L C W K S : Type 0} → (L → Told K) → (S → List ℕ → Type 0) → (S → ℕ) → S → S → ℕ → Told K
+    → Told K → Told K → Told K → List (Worker L C W) → Unserved → Type 0
+IsUnreadyBy tell wrote count out out' n given now smb_given smb_now all WriteFault =
+    Rose (count out) (count out')
+    × ((rest_port : ℕ) × (smb_port : ℕ) × HasPrefix (wrote out) (wrote out') (port_lines rest_port smb_port))
+IsUnreadyBy tell wrote count out out' n given now smb_given smb_now all NoMemory = out' ≡ out
+IsUnreadyBy tell wrote count out out' n given now smb_given smb_now all ListenFault =
+    (out' ≡ out) × HasFailed tell n given now smb_given smb_now all

@@ -1,14 +1,15 @@
 //! The service: what the command `serve` does, over any listeners, output, clock and random words.
-ghost use Rattle.std.specs.Prelude.{◌≡◌, ◌+◌, ◌≤◌, ◌<◌, ◌^◌, ◌⊎◌, [], min, IsOk, IsErrOf, OnOk, vec_len, List};
+ghost use Rattle.std.specs.Prelude.{◌≡◌, ◌+◌, [], IfOk, IfErr, IsErrOf, OnOk, vec_len};
 ghost use Rattle.std.specs.List.{AllByRecursion};
 ghost use Rattle.sx_base.specs.Sink.{Prints};
 ghost use Rattle.sx_book.specs.Passes.{first_pass};
-ghost use Rattle.sx_run.specs.Crews.{AreAllDismissed, AreEngaged, FailedSince, Told};
+ghost use Rattle.sx_smb_door.specs.Conversation.{HasText};
+ghost use Rattle.sx_run.specs.Crews.{AreAllDismissed, AreEngaged};
 ghost use Rattle.sx_run.specs.Doors.{rest_talks, smb_talks};
-ghost use Rattle.sx_run.specs.Serving.{Serves, port_lines, status_of};
+ghost use Rattle.sx_run.specs.Serving.{AllWorked, HasFailed, IsAllMet, IsUnreadyBy, IsUnservedBy, port_lines};
+ghost use Rattle.sx_run.specs.Serving.{status_of, status_unserved};
 ghost use Rattle.sx_run.specs.Words.{IsCrewSize};
 ghost use Rattle.sx_run.specs.declared.crew.Unhired.TheVariants as Unhired;
-ghost use Rattle.sx_run.specs.declared.crew.Worker.{Worker};
 
 use crate::crew::{CrewReport, Door, Unhired, Worker, dismiss, hire_all};
 use crate::words::ServeWords;
@@ -69,8 +70,14 @@ fn engage<R: Wait, L: Listener, C: Clock, W: Random>(
         (record { links = L.links smb.old; faults = L.listen_count smb.old })
         (record { links = L.links smb.new; faults = L.listen_count smb.new }) workers.new.items }
     ensures many { OnOk result (vec_len workers.new ≡ words.now.rest_workers + words.now.smb_workers) }
+    ensures fault { IsErrOf result Unhired.ListenFault → HasFailed
+        (λ l. record { links = L.links l; faults = L.listen_count l }) words.now.rest_workers
+        (record { links = L.links rest.old; faults = L.listen_count rest.old })
+        (record { links = L.links rest.new; faults = L.listen_count rest.new })
+        (record { links = L.links smb.old; faults = L.listen_count smb.old })
+        (record { links = L.links smb.new; faults = L.listen_count smb.new }) workers.new.items }
 {
-    hire_all(
+    match hire_all(
         rt,
         office,
         main,
@@ -80,7 +87,10 @@ fn engage<R: Wait, L: Listener, C: Clock, W: Random>(
         random,
         words.rest_workers,
         workers,
-    )?;
+    ) {
+        Ok(()) => {}
+        Err(unhired) => return Err(unhired),
+    }
     hire_all(
         rt,
         office,
@@ -134,4 +144,170 @@ fn status_of(rest: CrewReport, smb: CrewReport) -> u8
         return HISTORY_FULL;
     }
     DONE
+}
+
+/// Why no link was served.
+#[derive(Clone, Copy, Debug, PartialEq, Eq)]
+pub enum Unserved {
+    /// The ports could not be told.
+    WriteFault,
+    /// Out of memory, or the office gave no pass.
+    NoMemory,
+    /// A call of a listener failed.
+    ListenFault,
+}
+
+/// The status where no link was served.
+fn status_unserved(unserved: Unserved) -> u8
+    ensures { result ≡ status_unserved unserved }
+{
+    match unserved {
+        Unserved::WriteFault => WRITE_FAULT,
+        Unserved::NoMemory => NO_MEMORY,
+        Unserved::ListenFault => LISTEN_FAULT,
+    }
+}
+
+/// Hires the workers of both doors, and tells the ports.
+fn prepare<R: Wait, K: Sink, L: Listener, C: Clock, W: Random>(
+    rt: &R,
+    office: &Office,
+    main: &mut Pass,
+    words: &ServeWords,
+    rest_port: u16,
+    smb_port: u16,
+    out: &mut K,
+    rest: &mut L,
+    smb: &mut L,
+    clock: &mut C,
+    random: &mut W,
+    workers: &mut Vec<Worker<L, C, W>>,
+) -> Result<(), Unserved>
+    requires own { main.old.office ≡ office.now }
+    requires none { workers.old.items ≡ [] }
+    ensures main { main.new ≡ record main.old { seen = main.new.seen; known = main.new.known } }
+    ensures engaged { AreEngaged (λ l. record { links = L.links l; faults = L.listen_count l }) office.now
+        main.old.limit words.now.rest_workers
+        (record { links = L.links rest.old; faults = L.listen_count rest.old })
+        (record { links = L.links rest.new; faults = L.listen_count rest.new })
+        (record { links = L.links smb.old; faults = L.listen_count smb.old })
+        (record { links = L.links smb.new; faults = L.listen_count smb.new }) workers.new.items }
+    ensures many { OnOk result (vec_len workers.new ≡ words.now.rest_workers + words.now.smb_workers) }
+    ensures lines { OnOk result (HasText (K.wrote out.old) (K.wrote out.new) (port_lines rest_port smb_port)
+        × (K.write_count out.new ≡ K.write_count out.old)) }
+    ensures cause { IfErr result (IsUnreadyBy (λ l. record { links = L.links l; faults = L.listen_count l }) K.wrote
+        K.write_count out.old out.new words.now.rest_workers
+        (record { links = L.links rest.old; faults = L.listen_count rest.old })
+        (record { links = L.links rest.new; faults = L.listen_count rest.new })
+        (record { links = L.links smb.old; faults = L.listen_count smb.old })
+        (record { links = L.links smb.new; faults = L.listen_count smb.new }) workers.new.items) }
+{
+    match engage(rt, office, main, words, rest, smb, clock, random, workers) {
+        Ok(()) => {}
+        Err(Unhired::NoMemory) => return Err(Unserved::NoMemory),
+        Err(Unhired::ListenFault) => return Err(Unserved::ListenFault),
+    }
+    match tell_ports(out, rest_port, smb_port) {
+        Ok(()) => Ok(()),
+        Err(_) => Err(Unserved::WriteFault),
+    }
+}
+
+/// Serves the links of both listeners through an office: hires the workers, tells the ports, lets the workers work, and
+/// dismisses them.
+fn serve_office<R: Threads + Wait + Sync, K: Sink, L: Listener, C: Clock, W: Random>(
+    alloc: Global,
+    rt: &R,
+    office: &Office,
+    main: &mut Pass,
+    words: &ServeWords,
+    rest_port: u16,
+    smb_port: u16,
+    out: &mut K,
+    rest: &mut L,
+    smb: &mut L,
+    clock: &mut C,
+    random: &mut W,
+) -> Result<(CrewReport, CrewReport), Unserved>
+where
+    L::Link: Send,
+    requires main { main.old ≡ first_pass office.now words.now.limit }
+    requires rest { IsCrewSize words.now.rest_workers }
+    requires smb { IsCrewSize words.now.smb_workers }
+    ensures own { main.new.office ≡ office.now }
+    ensures limit { main.new.limit ≡ words.now.limit }
+    ensures worked { IfOk result (λ reports. IsAllMet main.new → AllWorked
+        (rest_talks C.ticks W.draws (record {
+          wrote = L.Link.wrote;
+          peer = L.Link.peer_of;
+          left = L.Link.left;
+          reads = L.Link.read_count;
+          writes = L.Link.write_count;
+          calls = L.Link.calls;
+        }) words.now.account)
+        (smb_talks C.ticks (record {
+          wrote = L.Link.wrote;
+          peer = L.Link.peer_of;
+          left = L.Link.left;
+          reads = L.Link.read_count;
+          writes = L.Link.write_count;
+          calls = L.Link.calls;
+        })) words.now main.new.seen
+        (record {
+          rest = record { links = L.links rest.old; faults = L.listen_count rest.old };
+          smb = record { links = L.links smb.old; faults = L.listen_count smb.old };
+          writes = K.write_count out.old;
+        })
+        (record {
+          rest = record { links = L.links rest.new; faults = L.listen_count rest.new };
+          smb = record { links = L.links smb.new; faults = L.listen_count smb.new };
+          writes = K.write_count out.new;
+        }) reports.0 reports.1) }
+    ensures lines { OnOk result (HasText (K.wrote out.old) (K.wrote out.new) (port_lines rest_port smb_port)
+        × (K.write_count out.new ≡ K.write_count out.old)) }
+    ensures unserved { IfErr result (λ unserved. (L.links rest.new ≡ L.links rest.old)
+        × (L.links smb.new ≡ L.links smb.old)
+        × IsUnservedBy unserved (K.wrote out.old) (K.wrote out.new)
+        (record {
+          rest = record { links = L.links rest.old; faults = L.listen_count rest.old };
+          smb = record { links = L.links smb.old; faults = L.listen_count smb.old };
+          writes = K.write_count out.old;
+        })
+        (record {
+          rest = record { links = L.links rest.new; faults = L.listen_count rest.new };
+          smb = record { links = L.links smb.new; faults = L.listen_count smb.new };
+          writes = K.write_count out.new;
+        })) }
+{
+    let mut workers = Vec::new(alloc);
+    match prepare(
+        rt,
+        office,
+        main,
+        words,
+        rest_port,
+        smb_port,
+        out,
+        rest,
+        smb,
+        clock,
+        random,
+        &mut workers,
+    ) {
+        Ok(()) => {
+            work(
+                alloc,
+                rt,
+                office,
+                &words.account,
+                words.conns,
+                &mut workers,
+            );
+            Ok(dismiss_all(office, main, words.rest_workers, rest, smb, workers))
+        }
+        Err(unserved) => {
+            let _reports = dismiss_all(office, main, words.rest_workers, rest, smb, workers);
+            Err(unserved)
+        }
+    }
 }
