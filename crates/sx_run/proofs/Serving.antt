@@ -25,7 +25,7 @@ use Rattle.sx_run.specs.Visits.{HasNone, Post, Stretch, Talks, Works}
 use Rattle.sx_run.proofs.Visiting.{prefix_both, stretch, visits_grow}
 
 -- a caller without places has no entry
-no_entry : (n k : ℕ) (log : List Noted) → places_from caller_of n k log ≡ [] → HasNone n log
+pub no_entry : (n k : ℕ) (log : List Noted) → places_from caller_of n k log ≡ [] → HasNone n log
 no_entry n k [] e = tt
 no_entry n k (x ∷ xs) e =
     elim (n == x.entry.who) as (λ b. (n == x.entry.who) ≡ b → (if b then k ∷ [] else []) ++ places_from caller_of n (k + 1) xs ≡ [] → HasNone n (x ∷ xs)) [

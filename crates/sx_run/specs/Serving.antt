@@ -10,8 +10,8 @@ use Rattle.sx_book.specs.Passes.{PassView, caller_of, HasExactPlaces, OwnsAllNum
 use Rattle.sx_smb_door.specs.Conversation.{HasText, HasPrefix}
 use Rattle.sx_run.specs.declared.crew.CrewReport.{CrewReport}
 use Rattle.sx_run.specs.declared.report.WorkReport.{WorkReport}
-use Rattle.sx_run.specs.declared.serve.Unserved.{Unserved}
-use Rattle.sx_run.specs.declared.serve.Unserved.TheVariants.{WriteFault, NoMemory, ListenFault}
+use Rattle.sx_run.specs.declared.service.Unserved.{Unserved}
+use Rattle.sx_run.specs.declared.service.Unserved.TheVariants.{WriteFault, NoMemory, ListenFault}
 use Rattle.sx_run.specs.declared.words.ServeWords.{ServeWords}
 use Rattle.sx_run.specs.Visits.{HasNone, Post, Talks, Works}
 use Rattle.sx_run.specs.declared.crew.Worker.{Worker}

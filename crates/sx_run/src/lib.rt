@@ -3,13 +3,14 @@
 
 mod crew;
 mod report;
-mod serve;
+mod service;
 mod words;
 mod worker;
 mod working;
 
 pub use crew::{CrewReport, Door, Unhired, Worker, dismiss, hire_all};
 pub use report::{WorkEnd, WorkReport};
+pub use service::{Unserved, serve};
 pub use words::{ServeWords, WordsFault, serve_words};
 pub use worker::{LINK_BUDGET, rest_worker, smb_worker};
 pub use working::work;

@@ -1,6 +1,6 @@
 use Rattle.std.proofs.Common.{ℕ, length, sym, ap, ◌∙◌, min}
 use Rattle.sx_run.proofs.Serving.{dismissed_all}
-use Rattle.sx_run.proofs.serve.dismiss_all.Goals as goal
+use Rattle.sx_run.proofs.service.dismiss_all.Goals as goal
 
 pub returns : goal.returns
 returns g c = dismissed_all _ c.args.main.now c.dismiss-smb_report.new.main c.dismiss-rest_report.new.main c.args.rest_workers _ _ _ _ c.args.workers.items c.dismiss-smb_report.new.workers.items c.dismiss-rest_report.new.workers.items c.dismiss-rest_report.result c.dismiss-smb_report.result

@@ -2,12 +2,13 @@
 ghost use Rattle.std.specs.Prelude.{◌≡◌, ◌+◌, [], IfOk, IfErr, IsErrOf, OnOk, vec_len};
 ghost use Rattle.std.specs.List.{AllByRecursion};
 ghost use Rattle.sx_base.specs.Sink.{Prints};
+ghost use Rattle.sx_spec.specs.History.{IsHistory};
 ghost use Rattle.sx_book.specs.Passes.{first_pass};
 ghost use Rattle.sx_smb_door.specs.Conversation.{HasText};
 ghost use Rattle.sx_run.specs.Crews.{AreAllDismissed, AreEngaged};
 ghost use Rattle.sx_run.specs.Doors.{rest_talks, smb_talks};
-ghost use Rattle.sx_run.specs.Serving.{AllWorked, HasFailed, IsAllMet, IsUnreadyBy, IsUnservedBy, port_lines};
-ghost use Rattle.sx_run.specs.Serving.{status_of, status_unserved};
+ghost use Rattle.sx_run.specs.Serving.{AllWorked, HasFailed, IsAllMet, IsUnreadyBy, IsUnservedBy, Serves};
+ghost use Rattle.sx_run.specs.Serving.{port_lines, status_of, status_unserved};
 ghost use Rattle.sx_run.specs.Words.{IsCrewSize};
 ghost use Rattle.sx_run.specs.declared.crew.Unhired.TheVariants as Unhired;
 
@@ -308,6 +309,111 @@ where
         Err(unserved) => {
             let _reports = dismiss_all(office, main, words.rest_workers, rest, smb, workers);
             Err(unserved)
+        }
+    }
+}
+
+/// The status of a closed office: its book's history is legal.
+fn status_of_book(book: Book, rest: CrewReport, smb: CrewReport) -> u8
+    ensures status { result ≡ status_of rest smb }
+    ensures legal { IsHistory book.limit book.entries }
+{
+    book.keeps();
+    status_of(rest, smb)
+}
+
+/// Lets go of what an office's close gave: its book, or the office that could not be closed.
+fn let_go(closed: Result<Book, CloseFault<Office, Pass>>) {
+    match closed {
+        Ok(_book) => {}
+        Err(fault) => {
+            let _out = Office::abandon(fault);
+        }
+    }
+}
+
+/// Serves both doors until every worker has served as many links as it may, or its listener has none left or failed.
+///
+/// It listens at both ports, opens an office with the words' limit, hires the workers of each door, the first of which
+/// takes the listener that is handed in and the others forks of it, and writes the lines `rest PORT` and `smb PORT`;
+/// then the workers serve links at once, each through a pass of its own, and the office is closed. The status is 0
+/// where every worker ended so without a fault, 4 where the ports could not be told, 5 where memory ran out, or the
+/// office gave no pass or could not be closed, 6 where a call of a listener failed, 7 where the history was full.
+pub fn serve<R: Threads + Wait + Sync, K: Sink, L: Listener, C: Clock, W: Random>(
+    alloc: Global,
+    rt: &R,
+    words: &ServeWords,
+    out: &mut K,
+    rest: &mut L,
+    smb: &mut L,
+    clock: &mut C,
+    random: &mut W,
+) -> u8
+where
+    L::Link: Send,
+    requires rest { IsCrewSize words.now.rest_workers }
+    requires smb { IsCrewSize words.now.smb_workers }
+    ensures { Serves
+        (rest_talks C.ticks W.draws (record {
+          wrote = L.Link.wrote;
+          peer = L.Link.peer_of;
+          left = L.Link.left;
+          reads = L.Link.read_count;
+          writes = L.Link.write_count;
+          calls = L.Link.calls;
+        }) words.now.account)
+        (smb_talks C.ticks (record {
+          wrote = L.Link.wrote;
+          peer = L.Link.peer_of;
+          left = L.Link.left;
+          reads = L.Link.read_count;
+          writes = L.Link.write_count;
+          calls = L.Link.calls;
+        })) words.now (K.wrote out.old) (K.wrote out.new)
+        (record {
+          rest = record { links = L.links rest.old; faults = L.listen_count rest.old };
+          smb = record { links = L.links smb.old; faults = L.listen_count smb.old };
+          writes = K.write_count out.old;
+        })
+        (record {
+          rest = record { links = L.links rest.new; faults = L.listen_count rest.new };
+          smb = record { links = L.links smb.new; faults = L.listen_count smb.new };
+          writes = K.write_count out.new;
+        }) result }
+{
+    let Ok(rest_port) = rest.bind(words.rest_port) else {
+        return LISTEN_FAULT;
+    };
+    let Ok(smb_port) = smb.bind(words.smb_port) else {
+        return LISTEN_FAULT;
+    };
+    let Ok((office, mut main)) = Office::begin(alloc, words.limit) else {
+        return NO_MEMORY;
+    };
+    match serve_office(
+        alloc,
+        rt,
+        &office,
+        &mut main,
+        words,
+        rest_port,
+        smb_port,
+        out,
+        rest,
+        smb,
+        clock,
+        random,
+    ) {
+        Ok((rest_report, smb_report)) => match office.close(rt, main) {
+            Ok(book) => status_of_book(book, rest_report, smb_report),
+            Err(fault) => {
+                let _out = Office::abandon(fault);
+                NO_MEMORY
+            }
+        },
+        Err(unserved) => {
+            let_go(office.close(rt, main));
+            status_unserved(unserved)
         }
     }
 }

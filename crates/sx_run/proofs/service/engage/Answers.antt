@@ -4,7 +4,7 @@ use Rattle.sx_run.specs.declared.crew.Worker.{Worker}
 use Rattle.sx_run.specs.Crews.{AreHired, Told}
 use Rattle.sx_run.proofs.Crews.{hired_on}
 use Rattle.sx_run.proofs.Serving.{engaged_rest, engaged_both, failed_rest, failed_smb, hired_none}
-use Rattle.sx_run.proofs.serve.engage.Goals as goal
+use Rattle.sx_run.proofs.service.engage.Goals as goal
 
 pub returns-in-Err-clause-engaged : goal.returns-in-Err-clause-engaged
 returns-in-Err-clause-engaged g c =
