@@ -1,0 +1,13 @@
+//! A connection's requests, read one after another and answered.
+#![tactic(auto)]
+
+mod answering;
+mod closing;
+mod conn;
+mod hearing;
+mod judging;
+mod tally;
+
+pub use conn::serve_conn;
+pub use sx_memory::NoMemory;
+pub use tally::Tally;
