@@ -20,13 +20,88 @@ struct Row {
     status: u8,
 }
 
-const ROWS: [Row; 17] = [
+const ROWS: [Row; 19] = [
     Row {
         words: &["session", "data"],
         input: b"",
         read: NONE,
         put: NONE,
         out: b"",
+        status: 0,
+    },
+    Row {
+        words: &["session", "data"],
+        input: b"\
+            open data docs rwd rwd create dir\n\
+            stat 1\n\
+            open data docs/f rw r create file\n\
+            write 2 0 6869\n\
+            stat 2\n\
+            open data docs/f r rwd existing file\n\
+            open data docs/F r r existing file\n\
+            open data docs/f r rw existing file doc\n\
+            quit\n\
+            stat 1\n\
+        ",
+        read: NONE,
+        put: NONE,
+        out: b"\
+            OK 3 open 1 created 2 0\n\
+            OK 4 stat 2 dir 0 Directory 7 7 7\n\
+            OK 5 open 2 created 3 0\n\
+            OK 6 write 2 2\n\
+            OK 7 stat 3 file 2 Archive 9 10 10\n\
+            OK 8 open 3 opened 3 2\n\
+            ERR SHARING_VIOLATION 9 sharing handle 1.2\n\
+            ERR SYNTAX 36\n\
+            OK 10 end 3\n\
+        ",
+        status: 0,
+    },
+    Row {
+        words: &["session", "data"],
+        input: b"\
+            open data docs rwd rwd create dir\n\
+            open data docs/a%20b.txt rwd rwd create file\n\
+            write 2 0 68690a\n\
+            write 2 6 62796521\n\
+            lock 2 0 4 exclusive\n\
+            open data DOCS/A%20B.TXT rw rwd existing file\n\
+            read 3 0 4\n\
+            lock 3 3 2 shared\n\
+            read 3 6 4\n\
+            unlock 2 0 4 exclusive\n\
+            read 3 0 16\n\
+            resize 2 3\n\
+            list 1 * 10\n\
+            dispose 2 on\n\
+            close 3\n\
+            close 2\n\
+            list 1 * 10\n\
+            quit\n\
+        ",
+        read: NONE,
+        put: NONE,
+        out: b"\
+            OK 3 open 1 created 2 0\n\
+            OK 4 open 2 created 3 0\n\
+            OK 5 write 3 3\n\
+            OK 6 write 4 10\n\
+            OK 7 lock\n\
+            OK 8 open 3 opened 3 10\n\
+            ERR FILE_LOCK_CONFLICT 9 lock handle 1.2 from 0 to 3\n\
+            ERR LOCK_NOT_GRANTED 10 lock handle 1.2 from 0 to 3\n\
+            OK 11 read 4 62796521\n\
+            OK 12 unlock\n\
+            OK 13 read 10 68690a00000062796521\n\
+            OK 14 resize 3\n\
+            OK 15 list 1 * file:3:a%20b.txt\n\
+            OK 16 dispose\n\
+            OK 17 close kept\n\
+            OK 18 close gone\n\
+            OK 19 list 0 *\n\
+            OK 20 end 1\n\
+        ",
         status: 0,
     },
     Row {
