@@ -53,12 +53,15 @@ module _ {K D : Type 0} (talks : Talks K D) (who limit : ℕ) (h more : List Not
   visits_more : (from : ℕ) (door : D) (vs : List (Visit K D)) (mid : D) (v : Visit K D) → reach from vs ≡ length h → v.upto ≡ length (h ++ more)
       → talks (stretch who limit (h ++ more) (length h)) (record { link = v.link; door = mid }) v.left v.report
       → AreVisits talks (stretch who limit h from) door vs mid → AreVisits talks (stretch who limit (h ++ more) from) door (vs ++ v ∷ []) v.left.door
-  visits_more from door [] mid v at end talk x = (record {
-    behind = let e : length (h ++ more) ≡ length h + length more = length-append h more in omega (arith, at, end, e);
-    within = omega (arith, end);
-    talk = subst (λ (t : D × ℕ × List Noted). talks (stretch who limit t.2 t.1) (record { link = v.link; door = t.0 }) v.left v.report)
-        (λ j. (sym x.0 j, sym at j, sym (ap (λ (n : ℕ). take n (h ++ more)) end ∙ take-length (h ++ more)) j)) talk;
-  }, (refl, subst (HasNone who) (sym (ap (λ (n : ℕ). drop n (h ++ more)) end ∙ drop_whole (h ++ more))) tt))
+  visits_more from door [] mid v at end talk x = (
+    record {
+      behind = let e : length (h ++ more) ≡ length h + length more = length-append h more in omega (arith, at, end, e);
+      within = omega (arith, end);
+      talk = subst (λ (t : D × ℕ × List Noted). talks (stretch who limit t.2 t.1) (record { link = v.link; door = t.0 }) v.left v.report)
+          (λ j. (sym x.0 j, sym at j, sym (ap (λ (n : ℕ). take n (h ++ more)) end ∙ take-length (h ++ more)) j)) talk;
+    },
+    (refl, subst (HasNone who) (sym (ap (λ (n : ℕ). drop n (h ++ more)) end ∙ drop_whole (h ++ more))) tt),
+  )
   visits_more from door (u ∷ vs) mid v at end talk x = (visit_grows from door u x.0, visits_more u.upto u.left.door vs mid v at end talk x.1)
 
 -- the reach of one link more

@@ -1,5 +1,6 @@
 -- The whole service: two listeners, one office that is opened and closed, and workers of both doors at once.
-use Rattle.std.specs.Prelude.{ℕ, ◌+◌, ◌≡◌, ◌≤◌, ◌==◌, ◌⊎◌, ◌||◌, if◌then◌else◌, Bool, true, false, List, [], ◌∷◌, ◌++◌, length, map, min, take, codes, decimal, Option}
+use Rattle.std.specs.Prelude.{ℕ, ◌+◌, ◌≡◌, ◌≤◌, ◌==◌, ◌⊎◌, ◌||◌, if◌then◌else◌, true, List, [], ◌∷◌, ◌++◌}
+use Rattle.std.specs.Prelude.{length, map, min, take, codes, decimal, Option}
 use Rattle.std.specs.List.{AllByRecursion}
 use Rattle.sx_base.specs.Causes.{Rose}
 use Rattle.sx_base.specs.LinkLists.{Links}

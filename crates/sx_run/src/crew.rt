@@ -173,8 +173,8 @@ fn add_report(crew: &mut CrewReport, report: &WorkReport)
     crew.full = report.full || crew.full;
 }
 
-/// Dismisses the workers behind the first so many: their passes meet the first one, and each listener takes back the one
-/// behind it, so that the one that was handed in stands again where it stood.
+/// Dismisses the workers behind the first so many: their passes meet the first one, and each listener takes back the
+/// one behind it, so that the one that was handed in stands again where it stood.
 pub fn dismiss<L: Listener, C: Clock, W: Random>(
     office: &Office,
     main: &mut Pass,

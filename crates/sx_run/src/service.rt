@@ -40,13 +40,16 @@ const HISTORY_FULL: u8 = 7;
 fn tell_ports<K: Sink>(out: &mut K, rest_port: u16, smb_port: u16) -> Result<(), Failed>
     ensures { Prints K.wrote K.write_count K.puts out.old out.new (port_lines rest_port smb_port) result }
 {
-    print(out, &[
-        Fragment::Text(b"rest "),
-        Fragment::Decimal(u64::from(rest_port)),
-        Fragment::Text(b"\nsmb "),
-        Fragment::Decimal(u64::from(smb_port)),
-        Fragment::Text(b"\n"),
-    ])
+    print(
+        out,
+        &[
+            Fragment::Text(b"rest "),
+            Fragment::Decimal(u64::from(rest_port)),
+            Fragment::Text(b"\nsmb "),
+            Fragment::Decimal(u64::from(smb_port)),
+            Fragment::Text(b"\n"),
+        ],
+    )
 }
 
 /// Hires the workers of both doors, those of the REST door first.
@@ -296,14 +299,7 @@ where
         &mut workers,
     ) {
         Ok(()) => {
-            work(
-                alloc,
-                rt,
-                office,
-                &words.account,
-                words.conns,
-                &mut workers,
-            );
+            work(alloc, rt, office, &words.account, words.conns, &mut workers);
             Ok(dismiss_all(office, main, words.rest_workers, rest, smb, workers))
         }
         Err(unserved) => {
@@ -391,18 +387,7 @@ where
         return NO_MEMORY;
     };
     match serve_office(
-        alloc,
-        rt,
-        &office,
-        &mut main,
-        words,
-        rest_port,
-        smb_port,
-        out,
-        rest,
-        smb,
-        clock,
-        random,
+        alloc, rt, &office, &mut main, words, rest_port, smb_port, out, rest, smb, clock, random,
     ) {
         Ok((rest_report, smb_report)) => match office.close(rt, main) {
             Ok(book) => status_of_book(book, rest_report, smb_report),

@@ -84,13 +84,13 @@ pub fn rest_worker<R: Wait, L: Listener, C: Clock, W: Random>(
     requires own { pass.old.office ≡ office.now }
     requires places { HasOwnPlaces pass.old }
     ensures works { Works (rest_talks C.ticks W.draws (record {
-          wrote = L.Link.wrote;
-          peer = L.Link.peer_of;
-          left = L.Link.left;
-          reads = L.Link.read_count;
-          writes = L.Link.write_count;
-          calls = L.Link.calls;
-        }) account.now)
+      wrote = L.Link.wrote;
+      peer = L.Link.peer_of;
+      left = L.Link.left;
+      reads = L.Link.read_count;
+      writes = L.Link.write_count;
+      calls = L.Link.calls;
+    }) account.now)
         (record { who = pass.old.number; history = history_of pass.new; from = length pass.old.seen }) conns
         (record {
           links = L.links listener.old;
@@ -148,13 +148,13 @@ pub fn smb_worker<R: Wait, L: Listener, C: Clock>(
     requires own { pass.old.office ≡ office.now }
     requires places { HasOwnPlaces pass.old }
     ensures works { Works (smb_talks C.ticks (record {
-          wrote = L.Link.wrote;
-          peer = L.Link.peer_of;
-          left = L.Link.left;
-          reads = L.Link.read_count;
-          writes = L.Link.write_count;
-          calls = L.Link.calls;
-        }))
+      wrote = L.Link.wrote;
+      peer = L.Link.peer_of;
+      left = L.Link.left;
+      reads = L.Link.read_count;
+      writes = L.Link.write_count;
+      calls = L.Link.calls;
+    }))
         (record { who = pass.old.number; history = history_of pass.new; from = length pass.old.seen }) conns
         (record { links = L.links listener.old; faults = L.listen_count listener.old; door = clock.old })
         (record { links = L.links listener.new; faults = L.listen_count listener.new; door = clock.new }) result }

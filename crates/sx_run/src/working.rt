@@ -114,33 +114,38 @@ where
     ensures many { length workers.new ≡ length workers.old }
 {
     let threads = workers.len();
-    thread::for_each_mut(rt, workers, threads, &|_: usize, worker: &mut Worker<L, C, W>|
-        requires { (worker.old.pass.office ≡ office.now) × HasOwnPlaces worker.old.pass }
-        ensures { RunsAt
-            (rest_talks C.ticks W.draws (record {
-              wrote = L.Link.wrote;
-              peer = L.Link.peer_of;
-              left = L.Link.left;
-              reads = L.Link.read_count;
-              writes = L.Link.write_count;
-              calls = L.Link.calls;
-            }) account.entry.now)
-            (smb_talks C.ticks (record {
-              wrote = L.Link.wrote;
-              peer = L.Link.peer_of;
-              left = L.Link.left;
-              reads = L.Link.read_count;
-              writes = L.Link.write_count;
-              calls = L.Link.calls;
-            })) conns
-            (λ w. record {
-              links = L.links w.listener;
-              faults = L.listen_count w.listener;
-              door = record { clock = w.clock; random = w.random };
-            })
-            (λ w. record { links = L.links w.listener; faults = L.listen_count w.listener; door = w.clock })
-            worker.old worker.new }
-    { run(alloc, rt, office, account, conns, worker) });
+    thread::for_each_mut(
+        rt,
+        workers,
+        threads,
+        &|_: usize, worker: &mut Worker<L, C, W>|
+            requires { (worker.old.pass.office ≡ office.now) × HasOwnPlaces worker.old.pass }
+            ensures { RunsAt
+                (rest_talks C.ticks W.draws (record {
+                  wrote = L.Link.wrote;
+                  peer = L.Link.peer_of;
+                  left = L.Link.left;
+                  reads = L.Link.read_count;
+                  writes = L.Link.write_count;
+                  calls = L.Link.calls;
+                }) account.entry.now)
+                (smb_talks C.ticks (record {
+                  wrote = L.Link.wrote;
+                  peer = L.Link.peer_of;
+                  left = L.Link.left;
+                  reads = L.Link.read_count;
+                  writes = L.Link.write_count;
+                  calls = L.Link.calls;
+                })) conns
+                (λ w. record {
+                  links = L.links w.listener;
+                  faults = L.listen_count w.listener;
+                  door = record { clock = w.clock; random = w.random };
+                })
+                (λ w. record { links = L.links w.listener; faults = L.listen_count w.listener; door = w.clock })
+                worker.old worker.new }
+        { run(alloc, rt, office, account, conns, worker) },
+    );
 }
 
 /// Lets the workers of both doors work at once, each in a thread of its own where one can be had.

@@ -37,7 +37,8 @@ returns-in-Ok-clause-worked g c met =
     (sym c.prepare.new.workers.ok.0 ∙ c.in-Ok.ensures.many) c.work.ensures.ran c.dismiss_all.ensures met
 
 pub returns-in-Err-clause-unserved : goal.returns-in-Err-clause-unserved
-returns-in-Err-clause-unserved g c =
-    (rest_links_same _ g.K.Sink.wrote g.K.Sink.write_count c.args.out.now c.prepare.new.out c.args.office.now c.args.main.now.limit c.args.words.now.rest_workers _ _ _ _ _ _ _ _ c.prepare.new.workers.items _ _ c.prepare.ensures.engaged c.dismiss_all-reports.ensures,
-        smb_links_same _ g.K.Sink.wrote g.K.Sink.write_count c.args.out.now c.prepare.new.out c.args.office.now c.args.main.now.limit c.args.words.now.rest_workers _ _ _ _ _ _ _ _ c.prepare.new.workers.items _ _ c.prepare.ensures.engaged c.dismiss_all-reports.ensures,
-        unserved_by _ g.K.Sink.wrote g.K.Sink.write_count c.args.out.now c.prepare.new.out c.args.office.now c.args.main.now.limit c.args.words.now.rest_workers _ _ _ _ _ _ _ _ c.prepare.new.workers.items _ _ c.prepare.ensures.engaged c.dismiss_all-reports.ensures c.in-Err.unserved c.in-Err.ensures.cause)
+returns-in-Err-clause-unserved g c = (
+  rest_links_same _ g.K.Sink.wrote g.K.Sink.write_count c.args.out.now c.prepare.new.out c.args.office.now c.args.main.now.limit c.args.words.now.rest_workers _ _ _ _ _ _ _ _ c.prepare.new.workers.items _ _ c.prepare.ensures.engaged c.dismiss_all-reports.ensures,
+  smb_links_same _ g.K.Sink.wrote g.K.Sink.write_count c.args.out.now c.prepare.new.out c.args.office.now c.args.main.now.limit c.args.words.now.rest_workers _ _ _ _ _ _ _ _ c.prepare.new.workers.items _ _ c.prepare.ensures.engaged c.dismiss_all-reports.ensures,
+  unserved_by _ g.K.Sink.wrote g.K.Sink.write_count c.args.out.now c.prepare.new.out c.args.office.now c.args.main.now.limit c.args.words.now.rest_workers _ _ _ _ _ _ _ _ c.prepare.new.workers.items _ _ c.prepare.ensures.engaged c.dismiss_all-reports.ensures c.in-Err.unserved c.in-Err.ensures.cause,
+)

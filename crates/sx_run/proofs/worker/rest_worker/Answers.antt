@@ -10,10 +10,13 @@ loop-preserved g c =
     let inv = c.loop.invariant in
     let served = c.serve_conn-report.ensures in
     let given = c.in-Ok.ensures.given in
-    let passed = so_far_with c.loop.pass c.serve_conn-report.new.pass _ served.pass in
-    (pass_more _ c.args.pass.now c.args.conns _ c.loop.pass c.serve_conn-report.new.pass _ _ _ c.in-Ok.link c.serve_conn-report.new.link c.serve_conn-report.result c.loop.work c.add_link.new.work inv.3 passed
-        c.ranges.conns.fits given.1 inv.0 given.0 served.grown (served.conversation, served.calls) c.finish.ensures.links (omega (arith, c.in-Ok.ensures.later, c.finish.ensures.later)) c.add_link.ensures,
-        prefix_both c.args.pass.now.seen c.loop.pass.seen c.serve_conn-report.new.pass.seen inv.1 served.grown, served.history.1 inv.2, so_far c.args.pass.now c.loop.pass c.serve_conn-report.new.pass inv.3 passed)
+    let passed = so_far_with c.loop.pass c.serve_conn-report.new.pass _ served.pass in (
+      pass_more _ c.args.pass.now c.args.conns _ c.loop.pass c.serve_conn-report.new.pass _ _ _ c.in-Ok.link c.serve_conn-report.new.link c.serve_conn-report.result c.loop.work c.add_link.new.work inv.3 passed
+          c.ranges.conns.fits given.1 inv.0 given.0 served.grown (served.conversation, served.calls) c.finish.ensures.links (omega (arith, c.in-Ok.ensures.later, c.finish.ensures.later)) c.add_link.ensures,
+      prefix_both c.args.pass.now.seen c.loop.pass.seen c.serve_conn-report.new.pass.seen inv.1 served.grown,
+      served.history.1 inv.2,
+      so_far c.args.pass.now c.loop.pass c.serve_conn-report.new.pass inv.3 passed,
+    )
 
 pub returns-in-Err-clause-works : goal.returns-in-Err-clause-works
 returns-in-Err-clause-works g c =

@@ -9,10 +9,13 @@ pub loop-preserved : goal.loop-preserved
 loop-preserved g c =
     let inv = c.loop.invariant in
     let served = c.serve_session-report.ensures in
-    let given = c.in-Ok.ensures.given in
-    (pass_more _ c.args.pass.now c.args.conns _ c.loop.pass c.serve_session-report.new.pass _ _ _ c.in-Ok.link c.serve_session-report.new.link c.serve_session-report.result c.loop.work c.add_link.new.work inv.3 served.pass
-        c.ranges.conns.fits given.1 inv.0 given.0 served.history.0 (served.conversation, served.calls) c.finish.ensures.links (omega (arith, c.in-Ok.ensures.later, c.finish.ensures.later)) c.add_link.ensures,
-        prefix_both c.args.pass.now.seen c.loop.pass.seen c.serve_session-report.new.pass.seen inv.1 served.history.0, served.places, so_far c.args.pass.now c.loop.pass c.serve_session-report.new.pass inv.3 served.pass)
+    let given = c.in-Ok.ensures.given in (
+      pass_more _ c.args.pass.now c.args.conns _ c.loop.pass c.serve_session-report.new.pass _ _ _ c.in-Ok.link c.serve_session-report.new.link c.serve_session-report.result c.loop.work c.add_link.new.work inv.3 served.pass
+          c.ranges.conns.fits given.1 inv.0 given.0 served.history.0 (served.conversation, served.calls) c.finish.ensures.links (omega (arith, c.in-Ok.ensures.later, c.finish.ensures.later)) c.add_link.ensures,
+      prefix_both c.args.pass.now.seen c.loop.pass.seen c.serve_session-report.new.pass.seen inv.1 served.history.0,
+      served.places,
+      so_far c.args.pass.now c.loop.pass c.serve_session-report.new.pass inv.3 served.pass,
+    )
 
 pub returns-in-Err-clause-works : goal.returns-in-Err-clause-works
 returns-in-Err-clause-works g c =
