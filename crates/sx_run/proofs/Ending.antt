@@ -1,5 +1,5 @@
 -- The whole service, from the office's close.
-use Rattle.std.proofs.Common.{ℕ, zero, suc, ◌+◌, ◌-◌, ◌<◌, ◌≤◌, ◌≡◌, ◌≢◌, ◌⊎◌, ⊎_elim, ◌==◌, if◌then◌else◌, Bool, true, false, min, All, List, [], ◌∷◌, ◌++◌, length, map, slice_index_or, refl, sym, ap, ◌∙◌, subst, arith, append_assoc, append-nil, length-append, inl, inr}
+use Rattle.std.proofs.Common.{ℕ, zero, suc, ◌+◌, ◌≤◌, ◌≡◌, ◌≢◌, ◌⊎◌, ⊎_elim, ◌==◌, if◌then◌else◌, true, false, min, All, List, [], ◌∷◌, ◌++◌, length, map, refl, sym, ap, ◌∙◌, subst, arith, append-nil, length-append, inl, inr}
 use Rattle.std.specs.List.{AllByRecursion, list_any}
 use Rattle.std.proofs.lemmas.Bool.Decides.{nat_tests}
 use mathlib.Core.List.{IsPrefix}
@@ -11,9 +11,8 @@ use Rattle.sx_turn.proofs.Lists.{each_append, each_first, each_map}
 use Rattle.sx_turn.proofs.Places.{once_one, times_append}
 use Rattle.sx_spec.specs.History.{IsHistory}
 use Rattle.sx_book.specs.History.{History}
-use Rattle.sx_book.specs.Passes.{PassView, HasExactPlaces, HasOwnPlaces, caller_of, first_pass, pass_pairs}
+use Rattle.sx_book.specs.Passes.{PassView, HasExactPlaces, HasOwnPlaces, caller_of, pass_pairs}
 use Rattle.sx_run.specs.declared.crew.CrewReport.{CrewReport}
-use Rattle.sx_run.specs.declared.crew.Door.{Door}
 use Rattle.sx_run.specs.declared.crew.Door.TheVariants.{Rest, Smb}
 use Rattle.sx_run.specs.declared.crew.Worker.{Worker}
 use Rattle.sx_run.specs.declared.report.WorkReport.{WorkReport}
@@ -21,11 +20,11 @@ use Rattle.sx_run.specs.declared.service.Unserved.{Unserved}
 use Rattle.sx_run.specs.declared.service.Unserved.TheVariants.{WriteFault, NoMemory, ListenFault}
 use Rattle.sx_run.specs.declared.words.ServeWords.{ServeWords}
 use Rattle.sx_smb_door.specs.Conversation.{HasText}
-use Rattle.sx_run.specs.Crews.{Told, AllTwo, AreAllDismissed, AreEngaged, Failed, HasRun, IsNewPass, Lent, RunsAt, TakenBack, crew_report, is_faulted, worker_pairs}
+use Rattle.sx_run.specs.Crews.{Told, AllTwo, AreAllDismissed, AreEngaged, Failed, HasRun, IsNewPass, RunsAt, TakenBack, crew_report, is_faulted, worker_pairs}
 use Rattle.sx_run.specs.Serving.{AllWorked, HasFailed, IsAllMet, IsUnreadyBy, IsUnservedBy, Outside, Serves, Shift, port_lines, reports_of, status_of, workers_of}
 use Rattle.sx_run.specs.Visits.{HasNone, Post, Talks}
 use Rattle.sx_run.proofs.Visiting.{IsSoFar}
-use Rattle.sx_run.proofs.Serving.{HasAll, crew_by, crew_faulted, failed_back, links_back, no_entry, shift_of, split_same}
+use Rattle.sx_run.proofs.Serving.{crew_by, crew_faulted, failed_back, links_back, no_entry, shift_of, split_same}
 
 -- ---- lists
 pub each_rest : {A : Type 0} (P : A → Type 0) (xs ys : List A) → AllByRecursion P (xs ++ ys) → AllByRecursion P ys

@@ -1,17 +1,17 @@
 -- What workers did in the one history of the office that was closed.
-use Rattle.std.proofs.Common.{ℕ, zero, suc, ◌+◌, ◌-◌, ◌^◌, ◌<◌, ◌≤◌, ◌≡◌, ◌≢◌, ◌||◌, ◌==◌, if◌then◌else◌, Bool, true, false, min, List, [], ◌∷◌, ◌++◌, length, map, take, drop, Option, Some, None, refl, sym, ap, ◌∙◌, subst, arith, append_assoc, append-nil, length-append, inl, inr}
+use Rattle.std.proofs.Common.{ℕ, ◌+◌, ◌≤◌, ◌≡◌, ◌||◌, ◌==◌, if◌then◌else◌, Bool, true, false, min, List, [], ◌∷◌, ◌++◌, length, map, take, Option, refl, sym, ap, ◌∙◌, subst, arith, append_assoc, append-nil, length-append, inl, inr}
 use Rattle.std.specs.List.{AllByRecursion, list_any}
 use Rattle.std.proofs.Math.Seq.{take-append_seam}
 use Rattle.std.proofs.lemmas.Bool.Decides.{nat_tests}
 use mathlib.Core.List.{IsPrefix}
-use Rattle.sx_base.specs.Causes.{Rose, TakesOver}
+use Rattle.sx_base.specs.Causes.{Rose}
 use Rattle.sx_base.specs.LinkLists.{Links}
 use Rattle.sx_call.specs.declared.entries.Noted.{Noted}
-use Rattle.sx_turn.specs.Places.{places, places_from, times}
+use Rattle.sx_turn.specs.Places.{places, places_from}
 use Rattle.sx_turn.specs.Seats.{TableId}
 use Rattle.sx_turn.proofs.Lists.{each_append, each_map, none_left, prefix_length}
 use Rattle.sx_turn.proofs.Places.{places_append}
-use Rattle.sx_book.specs.Passes.{PassView, caller_of, pass_pairs}
+use Rattle.sx_book.specs.Passes.{PassView, caller_of}
 use Rattle.sx_run.specs.declared.crew.CrewReport.{CrewReport}
 use Rattle.sx_run.specs.declared.crew.Door.{Door}
 use Rattle.sx_run.specs.declared.crew.Door.TheVariants.{Rest, Smb}
@@ -20,8 +20,8 @@ use Rattle.sx_run.specs.declared.report.WorkEnd.{WorkEnd}
 use Rattle.sx_run.specs.declared.report.WorkEnd.TheVariants.{Enough, Drained, ListenFault}
 use Rattle.sx_run.specs.declared.report.WorkReport.{WorkReport}
 use Rattle.sx_run.specs.Crews.{Told, AllTwo, AreAllDismissed, AreDismissed, AreEngaged, AreHired, Failed, FailedSince, HasRun, IsNewPass, Lent, TakenBack, forked, is_faulted, worker_pairs}
-use Rattle.sx_run.specs.Serving.{HasFailed, Shift, HasWorked, IsCrew, reports_of, workers_of}
-use Rattle.sx_run.specs.Visits.{HasNone, Post, Stretch, Talks, Works}
+use Rattle.sx_run.specs.Serving.{HasFailed, Shift, HasWorked, IsCrew}
+use Rattle.sx_run.specs.Visits.{HasNone, Post, Talks, Works}
 use Rattle.sx_run.proofs.Visiting.{prefix_both, stretch, visits_grow}
 
 -- a caller without places has no entry

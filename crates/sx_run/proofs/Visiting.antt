@@ -1,7 +1,7 @@
 -- A worker serves one link more, and ends.
-use Rattle.std.proofs.Common.{ℕ, zero, suc, ◌+◌, ◌-◌, ◌^◌, ◌<◌, ◌≤◌, ◌≡◌, ◌≢◌, ◌||◌, Bool, true, false, min, List, [], ◌∷◌, ◌++◌, length, map, take, drop, Option, Some, None, refl, sym, ap, ◌∙◌, subst, arith, length-append, append-nil, append_assoc}
+use Rattle.std.proofs.Common.{ℕ, ◌+◌, ◌-◌, ◌^◌, ◌<◌, ◌≤◌, ◌≡◌, ◌≢◌, ◌||◌, Bool, true, false, min, List, [], ◌∷◌, ◌++◌, length, take, drop, Option, Some, None, refl, sym, ap, ◌∙◌, subst, arith, length-append, append-nil, append_assoc}
 use Rattle.std.specs.Prelude.{IfSome}
-use Rattle.std.specs.List.{AllByRecursion, list_any}
+use Rattle.std.specs.List.{list_any}
 use Rattle.std.specs.Option.{option_map}
 use Rattle.std.proofs.Math.Seq.{take-length}
 use Rattle.std.proofs.lemmas.List.{take-append-le, drop-append-le, drop-drop, map-append}
@@ -11,14 +11,13 @@ use Rattle.sx_base.specs.Causes.{Rose}
 use Rattle.sx_base.specs.LinkLists.{Links, GivesLink, after_given, after_finished}
 use Rattle.sx_call.specs.declared.entries.Noted.{Noted}
 use Rattle.sx_turn.proofs.Lists.{each_append}
-use Rattle.sx_book.specs.History.{History}
 use Rattle.sx_book.specs.OneHistory.{history_of}
 use Rattle.sx_book.specs.Passes.{PassView, caller_of}
 use Rattle.sx_book.specs.declared.report.ConnReport.{ConnReport}
 use Rattle.sx_run.specs.declared.report.WorkEnd.{WorkEnd}
 use Rattle.sx_run.specs.declared.report.WorkEnd.TheVariants.{Enough, Drained, ListenFault}
 use Rattle.sx_run.specs.declared.report.WorkReport.{WorkReport}
-use Rattle.sx_run.specs.Visits.{Stretch, Side, Talks, Visit, HasNone, IsVisit, AreVisits, TakesLinks, Post, Works, IsWorkEnd, history_to, after_visits, links_given, links_left, was_full, was_starved, with_link}
+use Rattle.sx_run.specs.Visits.{Stretch, Talks, Visit, HasNone, IsVisit, AreVisits, TakesLinks, Post, Works, IsWorkEnd, links_given, links_left, was_full, was_starved, with_link}
 
 -- nothing is left behind a whole list
 pub drop_whole : {A : Type 0} (xs : List A) → drop (length xs) xs ≡ []

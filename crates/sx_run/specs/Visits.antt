@@ -1,7 +1,7 @@
 -- The links that a worker serves, one after another, in the one history.
 use Rattle.std.specs.Prelude.{ℕ, ◌+◌, ◌^◌, ◌-◌, ◌≤◌, ◌<◌, ◌≡◌, ◌≢◌, ◌||◌, Bool, true, false, List, [], ◌∷◌, ◌++◌}
 use Rattle.std.specs.Prelude.{length, map, take, drop}
-use Rattle.std.specs.Prelude.{Option, Some, None, IfSome, is_some, min}
+use Rattle.std.specs.Prelude.{Option, IfSome, is_some, min}
 use Rattle.std.specs.List.{AllByRecursion, list_any}
 use Rattle.std.specs.Option.{option_map}
 use Rattle.sx_base.specs.Causes.{Rose}

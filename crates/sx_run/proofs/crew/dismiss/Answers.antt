@@ -1,7 +1,6 @@
-use Rattle.std.proofs.Common.{[], ◌∷◌, ◌++◌, List, ◌≡◌, refl, sym, ap, ◌∙◌, subst, arith}
+use Rattle.std.proofs.Common.{[], ◌∷◌, ◌++◌, ◌≡◌, arith}
 use Rattle.sx_run.specs.declared.crew.Worker.{Worker}
-use Rattle.sx_run.specs.Crews.{Told}
-use Rattle.sx_run.proofs.Crews.{dismissed_none, dismissed_more, each_at}
+use Rattle.sx_run.proofs.Crews.{dismissed_none, dismissed_more}
 use Rattle.sx_run.proofs.crew.dismiss.Goals as goal
 
 pub loop-workers-init : goal.loop-workers-init

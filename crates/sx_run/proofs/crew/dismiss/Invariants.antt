@@ -1,4 +1,4 @@
-use Rattle.std.proofs.Common.{◌≡◌, ◌++◌, ◌≤◌, List, map, length, vec_len}
+use Rattle.std.proofs.Common.{◌≤◌, vec_len}
 use Rattle.sx_run.specs.Crews.{AreDismissed}
 use Rattle.sx_run.proofs.crew.dismiss.Given as goal
 

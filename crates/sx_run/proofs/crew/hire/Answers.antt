@@ -1,4 +1,4 @@
-use Rattle.std.proofs.Common.{[], ◌∷◌, ◌++◌, List, ◌≡◌, refl, sym, ap, ◌∙◌, subst, map, arith}
+use Rattle.std.proofs.Common.{[], ◌∷◌, ◌++◌, List, ◌≡◌, refl, ap, ◌∙◌, arith}
 use Rattle.sx_run.specs.declared.crew.Worker.{Worker}
 use Rattle.sx_run.specs.Crews.{Told}
 use Rattle.sx_run.proofs.Crews.{hired_more, new_by}

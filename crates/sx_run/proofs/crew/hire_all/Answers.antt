@@ -1,4 +1,4 @@
-use Rattle.std.proofs.Common.{arith, vec_len}
+use Rattle.std.proofs.Common.{arith}
 use Rattle.sx_run.proofs.Crews.{hired_on, looked_on, failed_since}
 use Rattle.sx_run.proofs.crew.hire_all.Goals as goal
 

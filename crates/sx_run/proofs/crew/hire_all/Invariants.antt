@@ -1,4 +1,4 @@
-use Rattle.std.proofs.Common.{◌≡◌, ◌+◌, ◌≤◌, List, vec_len}
+use Rattle.std.proofs.Common.{◌≡◌, ◌+◌, List, vec_len}
 use Rattle.sx_run.specs.declared.crew.Worker.{Worker}
 use Rattle.sx_run.specs.Crews.{AreHired, Told}
 use Rattle.sx_run.proofs.crew.hire_all.Given as goal

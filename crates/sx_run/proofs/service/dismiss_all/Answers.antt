@@ -1,4 +1,4 @@
-use Rattle.std.proofs.Common.{ℕ, length, sym, ap, ◌∙◌, min}
+use Rattle.std.proofs.Common.{ℕ, sym, ap, ◌∙◌, min}
 use Rattle.sx_run.proofs.Serving.{dismissed_all}
 use Rattle.sx_run.proofs.service.dismiss_all.Goals as goal
 

@@ -1,4 +1,4 @@
-use Rattle.std.proofs.Common.{refl, sym, ap, ◌∙◌}
+use Rattle.std.proofs.Common.{refl}
 use Rattle.sx_run.specs.Crews.{Told}
 use Rattle.sx_run.proofs.Ending.{begun_same, served_by, unclosed_by}
 use Rattle.sx_run.proofs.service.serve.Goals as goal
