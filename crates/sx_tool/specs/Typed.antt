@@ -10,9 +10,13 @@ use Rattle.sx_tool.specs.declared.words.Tool.TheVariants as tool
 abbrev pub IsAccount : List ℕ → List ℕ → Account → Type 0
 IsAccount name key account = credentials_of name key ≡ Ok (record { name = account.name; key = account.key })
 
--- this word is a moment that a clock may tell, in decimal digits without leading zeros
+-- this word is a number up to a greatest one, in decimal digits without leading zeros
+abbrev pub IsNumber : List ℕ → ℕ → ℕ → Type 0
+IsNumber word most number = (word ≡ decimal number) × (number ≤ most)
+
+-- this word is a moment that a clock may tell
 abbrev pub IsTicks : List ℕ → ℕ → Type 0
-IsTicks word moment = (word ≡ decimal moment) × (moment ≤ greatest_moment)
+IsTicks word moment = IsNumber word greatest_moment moment
 
 -- `sign ACCOUNT KEY`
 pub record IsSign (words : List (List ℕ)) (account : Account) : Type 0 where

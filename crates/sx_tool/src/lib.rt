@@ -9,4 +9,4 @@ mod words;
 
 pub use gathered::PIECE_LIMIT;
 pub use tool::{check_input, run_tool, sign_input};
-pub use words::{Tool, tool_of};
+pub use words::{Tool, number_of, tool_of};

@@ -2,7 +2,7 @@
 
 ghost use Rattle.std.specs.Prelude.{◌≡◌, ℕ, length, map, [], ◌∷◌, IfSome, IfNone, decimal, true, false};
 ghost use Rattle.std.specs.String.{string_bytes};
-ghost use Rattle.sx_tool.specs.Typed.{IsTicks, Spells};
+ghost use Rattle.sx_tool.specs.Typed.{IsNumber, IsTicks, Spells};
 
 use itoa::Buffer;
 use std::alloc::Global;
@@ -91,10 +91,18 @@ fn moment_of(word: &str) -> Option<u64>
     ensures some { IfSome result (λ n. IsTicks word.now n) }
     ensures none { IfNone result ((n : ℕ) → ¬ (IsTicks word.now n)) }
 {
+    number_of(word, GREATEST_MOMENT)
+}
+
+/// The number up to a greatest one that a word spells in decimal digits, without a sign or a leading zero.
+pub fn number_of(word: &str, most: u64) -> Option<u64>
+    ensures some { IfSome result (λ n. IsNumber word.now most n) }
+    ensures none { IfNone result ((n : ℕ) → ¬ (IsNumber word.now most n)) }
+{
     let Ok(number) = word.parse::<u64>() else {
         return None;
     };
-    if number > GREATEST_MOMENT {
+    if number > most {
         return None;
     }
     if is_decimal(number, word) {

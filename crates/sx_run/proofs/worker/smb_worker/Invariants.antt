@@ -1,0 +1,22 @@
+use Rattle.std.proofs.Common.{◌≡◌, length}
+use mathlib.Core.List.{IsPrefix}
+use Rattle.sx_book.specs.Passes.{HasOwnPlaces}
+use Rattle.sx_run.specs.Doors.{smb_talks}
+use Rattle.sx_run.proofs.Visiting.{Working}
+use Rattle.sx_run.proofs.worker.smb_worker.Given as goal
+
+-- the links that were served so far, by the pass that was handed in
+abbrev pub invariant-loop : goal.invariant-loop
+invariant-loop g l =
+    Working (smb_talks g.C.Clock.ticks (record {
+      wrote = g.L.Link.Sink.wrote;
+      peer = g.L.Link.Link.peer_of;
+      left = g.L.Link.Source.left;
+      reads = g.L.Link.Source.read_count;
+      writes = g.L.Link.Sink.write_count;
+      calls = g.L.Link.Link.calls;
+    })) l.fn.pass.number l.fn.pass.limit (length l.fn.pass.seen) l.pass.seen l.fn.conns
+    (record { links = g.L.Listener.links l.fn.listener; faults = g.L.Listener.listen_count l.fn.listener; door = l.fn.clock })
+    (record { links = g.L.Listener.links l.listener; faults = g.L.Listener.listen_count l.listener; door = l.clock }) l.work
+    × IsPrefix l.fn.pass.seen l.pass.seen × HasOwnPlaces l.pass
+    × (l.pass ≡ record l.fn.pass { seen = l.pass.seen; mine = l.pass.mine })
