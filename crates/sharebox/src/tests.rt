@@ -4,7 +4,7 @@ use super::run::run;
 use std::alloc::Global;
 use std::process::Abort;
 use std::sync::Wait;
-use sx_base::{MemSink, MemSource, StepClock};
+use sx_base::{MemSink, MemSource, StepClock, StepWords};
 
 /// No call fails.
 const NONE: u64 = 1_000_000;
@@ -220,6 +220,7 @@ fn check_row<R: Abort + Wait>(rt: &R, alloc: Global, number: usize, row: &Row) {
     let mut input = MemSource::new(list(rt, alloc, row.input), 5, reads);
     let mut out = MemSink::new(alloc, list(rt, alloc, &[row.put]));
     let mut clock = StepClock { at: 5, step: 1 };
+    let mut random = StepWords { at: 0 };
     let status = run(
         alloc,
         rt,
@@ -227,6 +228,7 @@ fn check_row<R: Abort + Wait>(rt: &R, alloc: Global, number: usize, row: &Row) {
         &mut input,
         &mut out,
         &mut clock,
+        &mut random,
     );
     assert_eq!(rt; status, row.status, "at {number}");
     assert!(rt; out.bytes() == row.out, "at {number}");
