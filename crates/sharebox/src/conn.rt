@@ -78,7 +78,17 @@ fn serve_streams<W: Wait, S: Source, K: Sink, C: Clock, R: Random>(
         sink: out,
         peer: LOOPBACK,
     };
-    serve_conn(alloc, rt, office, pass, &mut link, clock, random, account, INPUT_BUDGET)
+    serve_conn(
+        alloc,
+        rt,
+        office,
+        pass,
+        &mut link,
+        clock,
+        random,
+        account,
+        INPUT_BUDGET,
+    )
 }
 
 /// Serves one connection over input and output through a pass of its own of a new office, and closes the office.

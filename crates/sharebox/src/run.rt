@@ -149,7 +149,10 @@ fn status_of(report: &ConnReport) -> u8
 }
 
 /// The status where the office was closed, or could not be, which counts as out of memory.
-pub(crate) fn status_after_close(closed: Result<Book, CloseFault<Office, Pass>>, report: ConnReport) -> u8
+pub(crate) fn status_after_close(
+    closed: Result<Book, CloseFault<Office, Pass>>,
+    report: ConnReport,
+) -> u8
     ensures { result ≡ status_after_close closed report }
 {
     match closed {
