@@ -1,4 +1,5 @@
-//! A file share service, which serves a session or a connection over its input and output, and signs and checks heads of requests.
+//! A file share service, which serves a session or a connection over its input and output, and signs and checks heads
+//! of requests.
 #![tactic(auto)]
 
 mod command;
