@@ -14,7 +14,8 @@ use Rattle.sx_book.specs.OneHistory.{history_of}
 use Rattle.sx_book.specs.Passes.{PassView, caller_of, pass_pairs, after_meet, HasExactPlaces, OwnsAllNumbers, OwnsEachSeen}
 use Rattle.sx_book.specs.declared.report.ConnReport.{ConnReport}
 use Rattle.sx_smb_door.specs.Conversation.{Conversation, Visit}
-use Rattle.sharebox.specs.Command.{Closes, IsServed, first_history, session_visit, history_limit, input_budget, loopback, session_caller, status_after_close}
+use Rattle.sharebox.specs.Command.{Closes, IsServed, first_history, session_visit, loopback}
+use Rattle.sharebox.specs.Limits.{history_limit, input_budget, session_caller, status_after_close}
 use Rattle.sharebox.specs.Opening.{HasOpened}
 use Rattle.sharebox.proofs.Own.{own_rest}
 
@@ -61,7 +62,7 @@ closes_by : {B : Type 0} (r : Result History B) (Q : B → Type 0) (out : B → 
 closes_by (Ok book) Q out met seen limit same own some is all err = (is ∙ ap (λ (x : List Noted × ℕ). record { entries = x.0; limit = x.1 }) (λ j. (same j, limit j)), own all)
 closes_by (Err fault) Q out met seen limit same own some is all err = some fault err
 
-status_with : {B : Type 0} (r : Result History B) (out : B → ℕ) (report : ConnReport) → status_after_close r report ≡ status_after_close (closed_with out r) report
+pub status_with : {B : Type 0} (r : Result History B) (out : B → ℕ) (report : ConnReport) → status_after_close r report ≡ status_after_close (closed_with out r) report
 status_with (Ok book) out report = refl
 status_with (Err fault) out report = refl
 

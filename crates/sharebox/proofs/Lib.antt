@@ -1,3 +1,4 @@
 pub mod Closed
+pub mod Connected
 pub mod Own
 pub mod SessionWords

@@ -11,11 +11,12 @@ use Rattle.sx_turn.specs.Places.{places, places_from, times}
 use Rattle.sx_turn.specs.Seats.{TableId}
 use Rattle.sx_turn.proofs.Lists.{each_map}
 use Rattle.sx_book.specs.Passes.{PassView, GrowsByOthers, caller_of, with_noted, after_entry, first_pass, new_pass, pass_after_look}
-use Rattle.sharebox.specs.Command.{making, creation, first_history, history_limit, session_caller}
+use Rattle.sharebox.specs.Command.{making, creation, first_history}
+use Rattle.sharebox.specs.Limits.{history_limit, session_caller}
 use Rattle.sharebox.specs.Opening.{creation_behind, HasMade, HasOpened}
 
 -- a caller without places has no entry
-no_entry : (n k : ℕ) (log : List Noted) → places_from caller_of n k log ≡ [] → AllByRecursion (λ e. e.entry.who ≢ n) log
+pub no_entry : (n k : ℕ) (log : List Noted) → places_from caller_of n k log ≡ [] → AllByRecursion (λ e. e.entry.who ≢ n) log
 no_entry n k [] e = tt
 no_entry n k (x ∷ xs) e =
     elim (n == x.entry.who) as (λ b. (n == x.entry.who) ≡ b → (if b then k ∷ [] else []) ++ places_from caller_of n (k + 1) xs ≡ [] → AllByRecursion (λ e. e.entry.who ≢ n) (x ∷ xs)) [
@@ -23,14 +24,14 @@ no_entry n k (x ∷ xs) e =
       | false ↦ λ t g. ((λ is. let yes : (n == x.entry.who) ≡ true = grind (arith, nat_tests) in absurd (cc (yes, t))), no_entry n (k + 1) xs g)
     ] refl e
 
-of_other : (who : ℕ) (a b : List ℕ) → times who ((0, a) ∷ (1, b) ∷ []) ≡ 1 → who ≢ 0 → who ≡ 1
+pub of_other : (who : ℕ) (a b : List ℕ) → times who ((0, a) ∷ (1, b) ∷ []) ≡ 1 → who ≢ 0 → who ≡ 1
 of_other who a b h ne =
     elim (who == 1) as (λ c. (who == 1) ≡ c → (if who == 0 then 1 else 0) + ((if c then 1 else 0) + 0) ≡ 1 → who ≡ 1) [
       | true ↦ λ t g. grind (arith, nat_tests)
       | false ↦ λ t g. let no : (who == 0) ≡ false = grind (arith, nat_tests) in let z : 0 ≡ 1 = rw no at g in cc
     ] refl h
 
-each_both : (P Q : Noted → Type 0) (xs : List Noted) → AllByRecursion P xs → AllByRecursion Q xs → AllByRecursion (λ x. P x × Q x) xs
+pub each_both : (P Q : Noted → Type 0) (xs : List Noted) → AllByRecursion P xs → AllByRecursion Q xs → AllByRecursion (λ x. P x × Q x) xs
 each_both P Q [] h k = tt
 each_both P Q (x ∷ xs) h k = ((h.0, k.0), each_both P Q xs h.1 k.1)
 
@@ -43,7 +44,7 @@ each_rest P [] ys h = h
 each_rest P (x ∷ xs) ys h = each_rest P xs ys h.1
 
 -- a list of which each is and is not so is empty
-none_such : (n : ℕ) (xs : List Noted) → AllByRecursion (λ x. x.entry.who ≡ n) xs → AllByRecursion (λ x. x.entry.who ≢ n) xs → xs ≡ []
+pub none_such : (n : ℕ) (xs : List Noted) → AllByRecursion (λ x. x.entry.who ≡ n) xs → AllByRecursion (λ x. x.entry.who ≢ n) xs → xs ≡ []
 none_such n [] h k = refl
 none_such n (x ∷ xs) h k = absurd (k.0 h.0)
 
@@ -58,7 +59,7 @@ append_none [] = refl
 append_none (x ∷ xs) = ap (λ (l : List Noted). x ∷ l) (append_none xs)
 
 -- entries of callers below 1 are those of caller 0
-below_one : (xs : List Noted) → AllByRecursion (λ x. caller_of x < 1) xs → AllByRecursion (λ x. x.entry.who ≡ 0) xs
+pub below_one : (xs : List Noted) → AllByRecursion (λ x. caller_of x < 1) xs → AllByRecursion (λ x. x.entry.who ≡ 0) xs
 below_one xs h = each_map (λ x. caller_of x < 1) (λ x. x.entry.who ≡ 0) (λ x l. omega (arith, l)) xs h
 
 -- where all callers so far are caller 0, nothing was found before its entry, nor behind it

@@ -1,5 +1,5 @@
--- What the program does by its words, and the statuses that it ends with.
-use Rattle.std.specs.Prelude.{ℕ, codes, ◌≡◌, ◌≤◌, ◌⊎◌, true, List, [], ◌∷◌, drop, Bool, false, Option, Some, None}
+-- What the program does by its words.
+use Rattle.std.specs.Prelude.{ℕ, codes, ◌≡◌, ◌≤◌, ◌⊎◌, true, List, [], ◌∷◌, drop}
 use Rattle.std.specs.Prelude.{Result, Ok, Err}
 use Rattle.std.specs.List.{AllByRecursion}
 use mathlib.Core.List.{IsPrefix}
@@ -13,16 +13,16 @@ use Rattle.sx_names.specs.Names.{is_share_name}
 use Rattle.sx_spec.specs.History.{IsHistory}
 use Rattle.sx_book.specs.History.{History}
 use Rattle.sx_book.specs.Passes.{with_noted}
-use Rattle.sx_book.specs.declared.report.Full.{Full}
-use Rattle.sx_book.specs.declared.report.ConnEnd.{ConnEnd}
-use Rattle.sx_book.specs.declared.report.ConnEnd.TheVariants as finish
 use Rattle.sx_book.specs.declared.report.ConnReport.{ConnReport}
+use Rattle.sx_rest_door.specs.Conversation.{LinkState as ConnLink}
 use Rattle.sx_smb_door.specs.Conversation.{Conversation, HasText, HasPrefix, LinkState, Visit}
 use Rattle.sx_tool.specs.Tools.{Streams, Signs, Checks}
 use Rattle.sx_tool.specs.Typed.{IsSign, IsCheck, IsUnknown}
 use Rattle.sharebox.specs.declared.command.Command.{Command}
 use Rattle.sharebox.specs.declared.command.Command.TheVariants as command
-use Rattle.sharebox.specs.declared.run.TheConstants.{HISTORY_LIMIT, SHARE_QUOTA, SESSION_CALLER, LOOPBACK, INPUT_BUDGET}
+use Rattle.sharebox.specs.declared.run.TheConstants.{SHARE_QUOTA, LOOPBACK}
+use Rattle.sharebox.specs.Conn.{IsConn, IsNoConn, IsConnRun}
+use Rattle.sharebox.specs.Limits.{history_limit, session_caller, input_budget, status_after_close}
 
 -- the words are `session SHARE`
 abbrev pub IsSession : List (List ℕ) → List ℕ → Type 0
@@ -35,37 +35,27 @@ IsNoSession words = (share : List ℕ) → IsSession words share → ⊥
 -- the words are this command
 abbrev pub IsCommand : Command → List (List ℕ) → Type 0
 IsCommand (command.Session share) words = IsSession words share
+IsCommand (command.Conn account) words = IsConn words account
 IsCommand (command.Sign account) words = IsSign words account
 IsCommand (command.Check account now) words = IsCheck words account now
 
 -- the words are no command
 pub record IsNoCommand (words : List (List ℕ)) : Type 0 where
   pub no_session : IsNoSession words
+  pub no_conn : IsNoConn words
   pub no_tool : IsUnknown words
 
 -- what is written where the words are no command
 abbrev pub refusal_line : List ℕ
 refusal_line = codes "words refused\n"
 
--- how many places the program's history has
-abbrev pub history_limit : ℕ
-history_limit = HISTORY_LIMIT
-
 -- the GiB of the session's share
 abbrev pub share_quota : ℕ
 share_quota = SHARE_QUOTA
 
--- the caller of the session
-abbrev pub session_caller : ℕ
-session_caller = SESSION_CALLER
-
 -- 127.0.0.1
 abbrev pub loopback : ℕ
 loopback = LOOPBACK
-
--- how many bytes of input a session may take
-abbrev pub input_budget : ℕ
-input_budget = INPUT_BUDGET
 
 -- the call that makes the session's share, without metadata
 abbrev pub making : List ℕ → Call
@@ -75,49 +65,27 @@ making share = CreateShare (record { share = share; quota = share_quota; meta = 
 abbrev pub creation : List ℕ → ℕ → Entry
 creation share moment = record { who = 0; session = 0; at = moment; fresh = 0; call = making share }
 
--- the status of a session whose streams did not fail: out of memory comes first, then a full history
-abbrev pub status_by_counts : Bool → Option Full → ℕ → ℕ
-status_by_counts true full status = 5
-status_by_counts false (Some numbers) status = 7
-status_by_counts false None status = status
-
--- the status by how a session ended, whether memory ran out, and whether the history was full
-abbrev pub status_by : ConnEnd → Bool → Option Full → ℕ
-status_by finish.ReadFault starved full = 3
-status_by finish.WriteFault starved full = 4
-status_by finish.NoMemory starved full = 5
-status_by (finish.Full numbers) starved full = status_by_counts starved full 7
-status_by (finish.Cut left) starved full = status_by_counts starved full 2
-status_by finish.Spent starved full = status_by_counts starved full 2
-status_by (finish.Closed (Some at)) starved full = status_by_counts starved full 2
-status_by (finish.Closed None) starved full = status_by_counts starved full 0
-status_by finish.Ended starved full = status_by_counts starved full 0
-
--- the status of a session's report
-abbrev pub status_of : ConnReport → ℕ
-status_of report = status_by report.end report.starved report.full
-
--- the status where the office was closed, or could not be, which counts as out of memory
-abbrev pub status_after_close : {A B : Type 0} → Result A B → ConnReport → ℕ
-status_after_close (Ok book) report = status_of report
-status_after_close (Err fault) report = status_of (record report { starved = true })
-
--- the program's input and output, and its clock, before or after a run
-pub record Outside (K C : Type 0) : Type 0 where
+-- the program's input and output, its clock and its random source, before or after a run
+pub record Outside (K C R : Type 0) : Type 0 where
   pub sides : Sides
   pub out : K
   pub clock : C
+  pub random : R
 
 -- the streams of a command over a head
-abbrev pub streams_of : {K C : Type 0} → Outside K C → Streams K
+abbrev pub streams_of : {K C R : Type 0} → Outside K C R → Streams K
 streams_of o = record { sides = o.sides; out = o.out }
 
 -- the link of a session, with its clock
-abbrev pub link_of : {K C : Type 0} → Outside K C → LinkState C
+abbrev pub link_of : {K C R : Type 0} → Outside K C R → LinkState C
 link_of o = record { sides = o.sides; clock = o.clock }
 
+-- the link of a connection, with its clock and random source
+abbrev pub conn_link_of : {K C R : Type 0} → Outside K C R → ConnLink C R
+conn_link_of o = record { sides = o.sides; clock = o.clock; random = o.random }
+
 -- the words are no command: the refusal was written, or a prefix of it where the write failed; nothing was read
-pub record RefusesWords {K C : Type 0} (wrote : K → List ℕ → Type 0) (words : List (List ℕ)) (old new : Outside K C)
+pub record RefusesWords {K C R : Type 0} (wrote : K → List ℕ → Type 0) (words : List (List ℕ)) (old new : Outside K C R)
     (status : ℕ) : Type 0 where
   pub unknown : IsNoCommand words
   pub status_is : status ≡ 1
@@ -126,7 +94,7 @@ pub record RefusesWords {K C : Type 0} (wrote : K → List ℕ → Type 0) (word
       ⊎ (HasPrefix (wrote old.out) (wrote new.out) refusal_line × Rose old.sides.writes new.sides.writes)
 
 -- no memory was left to read the words: nothing was read or written
-pub record LacksMemory {K C : Type 0} (old new : Outside K C) (status : ℕ) : Type 0 where
+pub record LacksMemory {K C R : Type 0} (old new : Outside K C R) (status : ℕ) : Type 0 where
   pub status_is : status ≡ 5
   pub same : new ≡ old
 
@@ -185,19 +153,24 @@ abbrev pub IsSessionRun : {C : Type 0} → (C → ℕ → C → Type 0) → List
 IsSessionRun ticks share wrote wrote' old new status =
     IsNotServed wrote wrote' old new status ⊎ IsServed ticks share wrote wrote' old new status
 
--- what a command does; one over a head leaves the clock
-abbrev pub IsRunOf : {K C : Type 0} → Command → (K → List ℕ → Type 0) → (C → ℕ → C → Type 0)
-    → Outside K C → Outside K C → ℕ → Type 0
-IsRunOf (command.Session share) wrote ticks old new status =
-    IsSessionRun ticks share (wrote old.out) (wrote new.out) (link_of old) (link_of new) status
-IsRunOf (command.Sign account) wrote ticks old new status =
-    (new.clock ≡ old.clock) × Signs wrote account (streams_of old) (streams_of new) status
-IsRunOf (command.Check account now) wrote ticks old new status =
-    (new.clock ≡ old.clock) × Checks wrote account now (streams_of old) (streams_of new) status
+-- what a command does; a session leaves the random source, and one over a head leaves the clock, too
+abbrev pub IsRunOf : {K C R : Type 0} → Command → (K → List ℕ → Type 0) → (C → ℕ → C → Type 0) → (R → ℕ → R → Type 0)
+    → Outside K C R → Outside K C R → ℕ → Type 0
+IsRunOf (command.Session share) wrote ticks draws old new status =
+    (new.random ≡ old.random)
+    × IsSessionRun ticks share (wrote old.out) (wrote new.out) (link_of old) (link_of new) status
+IsRunOf (command.Conn account) wrote ticks draws old new status =
+    IsConnRun wrote ticks draws account old.out new.out (conn_link_of old) (conn_link_of new) status
+IsRunOf (command.Sign account) wrote ticks draws old new status =
+    (new.random ≡ old.random) × (new.clock ≡ old.clock)
+    × Signs wrote account (streams_of old) (streams_of new) status
+IsRunOf (command.Check account now) wrote ticks draws old new status =
+    (new.random ≡ old.random) × (new.clock ≡ old.clock)
+    × Checks wrote account now (streams_of old) (streams_of new) status
 
 -- what the program does by its words
-abbrev pub Runs : {K C : Type 0} → (K → List ℕ → Type 0) → (C → ℕ → C → Type 0) → List (List ℕ)
-    → Outside K C → Outside K C → ℕ → Type 0
-Runs wrote ticks words old new status =
+abbrev pub Runs : {K C R : Type 0} → (K → List ℕ → Type 0) → (C → ℕ → C → Type 0) → (R → ℕ → R → Type 0)
+    → List (List ℕ) → Outside K C R → Outside K C R → ℕ → Type 0
+Runs wrote ticks draws words old new status =
     RefusesWords wrote words old new status ⊎ LacksMemory old new status
-    ⊎ (command : Command) × IsCommand command words × IsRunOf command wrote ticks old new status
+    ⊎ (command : Command) × IsCommand command words × IsRunOf command wrote ticks draws old new status

@@ -1,2 +1,4 @@
 pub mod Command
+pub mod Conn
+pub mod Limits
 pub mod Opening

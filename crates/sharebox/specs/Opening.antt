@@ -5,7 +5,8 @@ use Rattle.sx_call.specs.declared.entries.Noted.{Noted}
 use Rattle.sx_turn.specs.Seats.{TableId}
 use Rattle.sx_book.specs.Passes.{PassView, GrowsByOthers, entry_behind, after_entry, first_pass, new_pass}
 use Rattle.sx_book.specs.Passes.{pass_after_look}
-use Rattle.sharebox.specs.Command.{history_limit, session_caller, making, creation, first_history}
+use Rattle.sharebox.specs.Command.{making, creation, first_history}
+use Rattle.sharebox.specs.Limits.{history_limit, session_caller}
 
 -- the program's Create Share behind what it found
 abbrev pub creation_behind : List Noted → List ℕ → ℕ → Entry

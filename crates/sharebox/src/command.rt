@@ -1,12 +1,13 @@
 //! The command that the words of the command line are.
-ghost use Rattle.std.specs.Prelude.{◌≡◌, ◌↔◌, ℕ, List, true, false, IfOk, IsErrOf, map};
+ghost use Rattle.std.specs.Prelude.{◌≡◌, ◌↔◌, ◌∷◌, [], ℕ, List, true, false, IfOk, IsErrOf, length, map};
 ghost use Rattle.std.specs.String.{string_bytes};
 ghost use Rattle.sx_names.specs.Names.{is_share_name};
 ghost use Rattle.sharebox.specs.declared.command.WordsFault.TheVariants as WordsFault;
 ghost use Rattle.sharebox.specs.Command.{IsCommand, IsSession, IsNoCommand, IsNoSession};
+ghost use Rattle.sharebox.specs.Conn.{IsNoConn, SpellsConn};
 
 use std::alloc::Global;
-use sx_key::Account;
+use sx_key::{Account, AccountFault};
 use sx_names::{ShareName, Unnamed};
 use sx_tool::{Tool, tool_of};
 
@@ -15,6 +16,8 @@ use sx_tool::{Tool, tool_of};
 pub enum Command {
     /// `session SHARE`: make a share of this name, and serve one session on it.
     Session(ShareName),
+    /// `conn ACCOUNT KEY`: serve one connection, of requests that are signed for the account.
+    Conn(Account),
     /// `sign ACCOUNT KEY`: sign the head of a request.
     Sign(Account),
     /// `check ACCOUNT KEY TICKS`: check a signed head at a moment, in units of 100 ns since 1970.
@@ -38,13 +41,62 @@ pub fn command_of(alloc: Global, words: &[String]) -> Result<Command, WordsFault
     match session_share(alloc, words) {
         Ok(share) => Ok(Command::Session(share)),
         Err(WordsFault::NoMemory) => Err(WordsFault::NoMemory),
-        Err(WordsFault::Unknown) => tool_command(alloc, words),
+        Err(WordsFault::Unknown) => other_command(alloc, words),
     }
 }
 
 /// The command of words that are not `session SHARE`.
-fn tool_command(alloc: Global, words: &[String]) -> Result<Command, WordsFault>
+fn other_command(alloc: Global, words: &[String]) -> Result<Command, WordsFault>
     requires { IsNoSession (map string_bytes words.now) }
+    ensures command { IfOk result (λ command. IsCommand command (map string_bytes words.now)) }
+    ensures fault { IsErrOf result WordsFault.Unknown → IsNoCommand (map string_bytes words.now) }
+{
+    match conn_account(alloc, words) {
+        Ok(account) => Ok(Command::Conn(account)),
+        Err(WordsFault::NoMemory) => Err(WordsFault::NoMemory),
+        Err(WordsFault::Unknown) => tool_command(alloc, words),
+    }
+}
+
+/// The account of the words `conn ACCOUNT KEY`. `Unknown` is for all other words.
+fn conn_account(alloc: Global, words: &[String]) -> Result<Account, WordsFault>
+    ensures { SpellsConn result (map string_bytes words.now) }
+{
+    match words.len() {
+        3 => three(alloc, words),
+        _ => Err(WordsFault::Unknown),
+    }
+}
+
+fn three(alloc: Global, words: &[String]) -> Result<Account, WordsFault>
+    requires { length words.now ≡ 3 }
+    ensures { SpellsConn result (map string_bytes words.now) }
+{
+    conn_of(
+        alloc,
+        words[0].as_str(),
+        words[1].as_bytes(),
+        words[2].as_bytes(),
+    )
+}
+
+fn conn_of(alloc: Global, verb: &str, name: &[u8], key: &[u8]) -> Result<Account, WordsFault>
+    ensures { SpellsConn result (verb.now ∷ name.now ∷ key.now ∷ []) }
+{
+    if verb != "conn" {
+        return Err(WordsFault::Unknown);
+    }
+    match Account::read(alloc, name, key) {
+        Ok(account) => Ok(account),
+        Err(AccountFault::NoMemory) => Err(WordsFault::NoMemory),
+        Err(_) => Err(WordsFault::Unknown),
+    }
+}
+
+/// The command of words that are neither `session SHARE` nor `conn ACCOUNT KEY`.
+fn tool_command(alloc: Global, words: &[String]) -> Result<Command, WordsFault>
+    requires session { IsNoSession (map string_bytes words.now) }
+    requires conn { IsNoConn (map string_bytes words.now) }
     ensures command { IfOk result (λ command. IsCommand command (map string_bytes words.now)) }
     ensures fault { IsErrOf result WordsFault.Unknown → IsNoCommand (map string_bytes words.now) }
 {

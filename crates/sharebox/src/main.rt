@@ -1,19 +1,21 @@
-//! A file share service, which serves a session over its input and output, and signs and checks heads of requests.
+//! A file share service, which serves a session or a connection over its input and output, and signs and checks heads
+//! of requests.
 #![tactic(auto)]
 
 mod command;
+mod conn;
 mod run;
 #[cfg(test)]
 mod tests;
 
 use std::process::ExitCode;
 use std::{env, io};
-use sx_base::{Input, Output, SystemClock};
+use sx_base::{Input, Output, SystemClock, SystemRandom};
 
 /// The status where the words can't be had.
 const NO_WORDS: u8 = 1;
 
-/// Makes the program's input, output and clock, and runs it by the words of the command line.
+/// Makes the program's input, output, clock and random source, and runs it by the words of the command line.
 fn main(rt: HostRuntime) -> ExitCode {
     let alloc = rt.alloc();
     let Ok(args) = env::args(&rt) else {
@@ -25,6 +27,7 @@ fn main(rt: HostRuntime) -> ExitCode {
     let mut input = Input::new(rt.reader());
     let mut out = Output::new(io::writer(&rt));
     let mut clock = SystemClock::new(rt);
+    let mut random = SystemRandom::new(rt);
     let status = run::run(
         alloc,
         &rt,
@@ -32,6 +35,7 @@ fn main(rt: HostRuntime) -> ExitCode {
         &mut input,
         &mut out,
         &mut clock,
+        &mut random,
     );
     ExitCode::from(status)
 }

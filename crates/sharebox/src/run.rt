@@ -9,13 +9,14 @@ ghost use Rattle.sx_book.specs.OneHistory.{history_of};
 ghost use Rattle.sx_book.specs.Passes.{first_pass};
 ghost use Rattle.sx_smb_door.specs.Conversation.{Conversation, HasText, HasPrefix};
 ghost use Rattle.sharebox.specs.Opening.{HasMade, HasOpened};
-ghost use Rattle.sharebox.specs.Command.{Runs, IsSessionRun, status_by_counts, history_limit, input_budget, loopback};
-ghost use Rattle.sharebox.specs.Command.{refusal_line, status_of, status_after_close};
+ghost use Rattle.sharebox.specs.Command.{Runs, IsSessionRun, loopback, refusal_line};
+ghost use Rattle.sharebox.specs.Limits.{history_limit, input_budget, status_by_counts, status_of, status_after_close};
 
 use crate::command::{Command, WordsFault, command_of};
+use crate::conn::conn;
 use std::alloc::Global;
 use std::sync::Wait;
-use sx_base::{Both, Clock, NoMemory, Sink, Source};
+use sx_base::{Both, Clock, NoMemory, Random, Sink, Source};
 use sx_book::{Book, CloseFault, ConnEnd, ConnReport, Office, Pass};
 use sx_call::{Call, CreateShare};
 use sx_names::{Meta, Quota, ShareName};
@@ -38,25 +39,25 @@ const READ_FAULT: u8 = 3;
 const WRITE_FAULT: u8 = 4;
 
 /// The status where memory ran out, or the office gave no pass or could not be closed.
-const NO_MEMORY: u8 = 5;
+pub(crate) const NO_MEMORY: u8 = 5;
 
 /// The status where the history was full.
 const HISTORY_FULL: u8 = 7;
 
 /// How many places the history has.
-const HISTORY_LIMIT: u32 = 1_000_000;
+pub(crate) const HISTORY_LIMIT: u32 = 1_000_000;
 
 /// The quota of the session's share, in GiB.
 const SHARE_QUOTA: u32 = 5_120;
 
-/// The caller of the session: the number of its pass.
-const SESSION_CALLER: u32 = 1;
+/// The caller of the session or connection: the number of its pass.
+pub(crate) const SESSION_CALLER: u32 = 1;
 
-/// The address of the session's peer: 127.0.0.1.
-const LOOPBACK: u32 = 0x7f00_0001;
+/// The address of the peer: 127.0.0.1.
+pub(crate) const LOOPBACK: u32 = 0x7f00_0001;
 
-/// How many bytes of input a session may take.
-const INPUT_BUDGET: u64 = 1 << 40;
+/// How many bytes of input a session or connection may take.
+pub(crate) const INPUT_BUDGET: u64 = 1 << 40;
 
 /// Makes the share of a session.
 fn create_share<R: Wait>(
@@ -109,7 +110,7 @@ fn open<R: Wait>(
 }
 
 /// Lets go of what an office's close gave: its book, or the office that could not be closed.
-fn let_go(closed: Result<Book, CloseFault<Office, Pass>>) {
+pub(crate) fn let_go(closed: Result<Book, CloseFault<Office, Pass>>) {
     match closed {
         Ok(_book) => {}
         Err(fault) => {
@@ -148,7 +149,10 @@ fn status_of(report: &ConnReport) -> u8
 }
 
 /// The status where the office was closed, or could not be, which counts as out of memory.
-fn status_after_close(closed: Result<Book, CloseFault<Office, Pass>>, report: ConnReport) -> u8
+pub(crate) fn status_after_close(
+    closed: Result<Book, CloseFault<Office, Pass>>,
+    report: ConnReport,
+) -> u8
     ensures { result ≡ status_after_close closed report }
 {
     match closed {
@@ -256,29 +260,35 @@ fn refuse_words<K: Sink>(out: &mut K) -> u8
 /// end or to `quit`, 2 where a line was over its limit, cut, or past the budget of bytes, 3 and 4 where a read or write
 /// failed, 5 where memory ran out, or the office gave no pass or could not be closed, 7 where the history was full.
 /// `sign ACCOUNT KEY` and `check ACCOUNT KEY TICKS` do what `sx_tool::run_tool` says, and ask no clock. All other words
-/// are refused with 1.
-pub fn run<R: Wait, S: Source, K: Sink, C: Clock>(
+/// are refused with 1. `conn ACCOUNT KEY` serves one connection, of requests that are signed for the account, to an
+/// empty account, with the statuses of a session: 0 where the input was read to its end or a request closed it, 2 where
+/// a request was cut or can't be read. Only a connection draws random words.
+pub fn run<W: Wait, S: Source, K: Sink, C: Clock, R: Random>(
     alloc: Global,
-    rt: &R,
+    rt: &W,
     words: &[String],
     input: &mut S,
     out: &mut K,
     clock: &mut C,
+    random: &mut R,
 ) -> u8
-    ensures { Runs K.wrote C.ticks (map string_bytes words.now)
+    ensures { Runs K.wrote C.ticks R.draws (map string_bytes words.now)
         (record {
           sides = record { left = S.left input.old; reads = S.read_count input.old; writes = K.write_count out.old };
           out = out.old;
           clock = clock.old;
+          random = random.old;
         })
         (record {
           sides = record { left = S.left input.new; reads = S.read_count input.new; writes = K.write_count out.new };
           out = out.new;
           clock = clock.new;
+          random = random.new;
         }) result }
 {
     match command_of(alloc, words) {
         Ok(Command::Session(share)) => session(alloc, rt, &share, input, out, clock),
+        Ok(Command::Conn(account)) => conn(alloc, rt, &account, input, out, clock, random),
         Ok(Command::Sign(account)) => sign_input(alloc, &account, input, out),
         Ok(Command::Check(account, now)) => check_input(alloc, &account, now, input, out),
         Err(WordsFault::NoMemory) => NO_MEMORY,

@@ -4,7 +4,7 @@ use super::run::run;
 use std::alloc::Global;
 use std::process::Abort;
 use std::sync::Wait;
-use sx_base::{MemSink, MemSource, StepClock};
+use sx_base::{MemSink, MemSource, StepClock, StepWords};
 
 /// No call fails.
 const NONE: u64 = 1_000_000;
@@ -20,7 +20,7 @@ struct Row {
     status: u8,
 }
 
-const ROWS: [Row; 19] = [
+const ROWS: [Row; 24] = [
     Row {
         words: &["session", "data"],
         input: b"",
@@ -269,6 +269,57 @@ const ROWS: [Row; 19] = [
         out: b"",
         status: 3,
     },
+    Row {
+        words: &["conn", "acct", "a2V5"],
+        input: b"GET /?comp=list HTTP/1.1\r\nx-ms-date: Thu, 01 Jan 1970 00:00:00 GMT\r\nx-ms-version: 2020\
+            -10-02\r\nAuthorization: SharedKey acct:bkfGgOIDQpTayWI69R0dBD9uMSB4IVrouJpk4Vkk0Z4=\r\n\r\
+            \n",
+        read: NONE,
+        put: NONE,
+        out: b"HTTP/1.1 200 OK\r\nx-ms-request-id: 00000000-0000-0000-0000-000000000001\r\nx-ms-version: \
+            2020-10-02\r\nDate: Thu, 01 Jan 1970 00:00:00 GMT\r\nContent-Type: application/xml\r\nCont\
+            ent-Length: 184\r\n\r\n<?xml version=\"1.0\" encoding=\"utf-8\"?><EnumerationResults><Pref\
+            ix></Prefix><Marker></Marker><MaxResults>5000</MaxResults><Shares></Shares><NextMarker></N\
+            extMarker></EnumerationResults>",
+        status: 0,
+    },
+    Row {
+        words: &["conn", "acct", "a2V5"],
+        input: b"GET /?comp=list HTTP/1.1\r\nx-ms-date: Thu, 01 Jan 1970 00:00:00 GMT\r\nx-ms-version: 2020\
+            -10-02\r\nAuthorization: SharedKey acct:bkfGgOIDQpTayWI69R0dBD9uMSB4IVrouJpk4Vkk0Z4=\r\n\r",
+        read: NONE,
+        put: NONE,
+        out: b"",
+        status: 2,
+    },
+    Row {
+        words: &["conn", "acct", "a2V5"],
+        input: b"GET / HTTP/1.1\r\nA b: c\r\n\r\n",
+        read: NONE,
+        put: NONE,
+        out: b"HTTP/1.1 400 Bad Request\r\nx-ms-request-id: 00000000-0000-0000-0000-000000000000\r\nx-ms-\
+            version: 2020-10-02\r\nDate: Thu, 01 Jan 1970 00:00:00 GMT\r\nx-ms-error-code: InvalidHead\
+            erValue\r\nContent-Type: application/xml\r\nContent-Length: 112\r\nConnection: close\r\n\r\
+            \n<?xml version=\"1.0\" encoding=\"utf-8\"?><Error><Code>InvalidHeaderValue</Code><Message\
+            >head at 0</Message></Error>",
+        status: 2,
+    },
+    Row {
+        words: &["conn", "acct"],
+        input: b"",
+        read: NONE,
+        put: NONE,
+        out: b"words refused\n",
+        status: 1,
+    },
+    Row {
+        words: &["conn", "acct", "a2V"],
+        input: b"",
+        read: NONE,
+        put: NONE,
+        out: b"words refused\n",
+        status: 1,
+    },
 ];
 
 fn list<T: Copy>(rt: &impl Abort, alloc: Global, items: &[T]) -> Vec<T> {
@@ -295,6 +346,7 @@ fn check_row<R: Abort + Wait>(rt: &R, alloc: Global, number: usize, row: &Row) {
     let mut input = MemSource::new(list(rt, alloc, row.input), 5, reads);
     let mut out = MemSink::new(alloc, list(rt, alloc, &[row.put]));
     let mut clock = StepClock { at: 5, step: 1 };
+    let mut random = StepWords { at: 0 };
     let status = run(
         alloc,
         rt,
@@ -302,6 +354,7 @@ fn check_row<R: Abort + Wait>(rt: &R, alloc: Global, number: usize, row: &Row) {
         &mut input,
         &mut out,
         &mut clock,
+        &mut random,
     );
     assert_eq!(rt; status, row.status, "at {number}");
     assert!(rt; out.bytes() == row.out, "at {number}");

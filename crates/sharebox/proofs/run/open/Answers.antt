@@ -1,5 +1,5 @@
 use Rattle.std.proofs.Common.{◌≡◌, sym, ◌∙◌}
-use Rattle.sharebox.specs.Command.{session_caller}
+use Rattle.sharebox.specs.Limits.{session_caller}
 use Rattle.sharebox.proofs.Own.{opened_by}
 use Rattle.sharebox.proofs.run.open.Goals as goal
 
