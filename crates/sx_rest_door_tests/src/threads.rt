@@ -11,8 +11,7 @@ use sx_book::{Book, ConnEnd, ConnReport, Office, Pass};
 use sx_rest_door::serve_conn;
 
 /// A listing of the shares, signed.
-const LISTING: &str =
-    "GET /?comp=list HTTP/1.1\r\nx-ms-date: Sat, 01 Jan 2022 00:00:00 GMT\r\n\
+const LISTING: &str = "GET /?comp=list HTTP/1.1\r\nx-ms-date: Sat, 01 Jan 2022 00:00:00 GMT\r\n\
      x-ms-version: 2020-10-02\r\n\
      Authorization: SharedKey acct:DGRnMuofoF/9eYEegXv1fxmhppeo80ZGcoTLZf2gQ9g=\r\n\r\n";
 
