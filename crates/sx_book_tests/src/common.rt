@@ -160,6 +160,17 @@ fn opening(alloc: Global, who: u32, file: u32) -> Option<SmbOpen> {
     })
 }
 
+// Whether an open was answered with a file that it made.
+fn was_made(answer: Result<Receipt, Stop>) -> bool {
+    match answer {
+        Ok(receipt) => matches!(
+            receipt.reply,
+            Reply::Smb(SmbReply::Opened { made: true, .. })
+        ),
+        Err(_) => false,
+    }
+}
+
 // Makes a file of the pass's in one of its sessions. Answers whether it was made.
 pub(crate) fn make_file<R: Wait>(
     rt: &R,
@@ -177,12 +188,5 @@ pub(crate) fn make_file<R: Wait>(
     let Some(open) = opening(alloc, pass.number(), file) else {
         return false;
     };
-    let call = Call::SmbOpen(open);
-    match office.ask(rt, pass, NOW, 17, Some(session), call) {
-        Ok(receipt) => matches!(
-            receipt.reply,
-            Reply::Smb(SmbReply::Opened { made: true, .. })
-        ),
-        Err(_) => false,
-    }
+    was_made(office.ask(rt, pass, NOW, 17, Some(session), Call::SmbOpen(open)))
 }

@@ -4,7 +4,7 @@ use Rattle.sx_call.specs.Calls.{door_of}
 use Rattle.sx_call.specs.declared.calls.Call.{Call}
 use Rattle.sx_call.specs.declared.doors.Door.TheVariants.{InSession}
 use Rattle.sx_lines.specs.Fields.{read_range_of, byte_range_of, write_of, length_of, page_size_of, choice_of, marker_of, share_of, path_of, rights_of, mode_of, how_of}
-use Rattle.sx_lines.specs.Lines.{index_in, offset_in, close_call, read_call, write_call, resize_call, lock_call, unlock_call, stat_call, list_call, dispose_call, quit_line, call_said, call_by, verb_of, line_read, placed, line_of}
+use Rattle.sx_lines.specs.Lines.{index_in, offset_in, close_call, read_call, write_call, resize_call, lock_in, lock_call, unlock_call, stat_call, list_call, dispose_call, quit_line, call_said, call_by, verb_of, line_read, placed, line_of}
 use Rattle.sx_lines.specs.Opens.{open_call, rights_in}
 use Rattle.sx_lines.specs.Reading.{Reading, with_next}
 use Rattle.sx_lines.specs.Words.{next_word, behind_next, judged, end_of, without_return, first_word, behind_first}
@@ -46,19 +46,11 @@ resizes k =
 
 locks : (k : List ℕ) → StandsInSession (lock_call k)
 unfolding lock_call
-locks k =
-    let at = behind_next k in
-    let count = behind_next at in
-    let kind = behind_next count in
-    behind (index_in k) _ (λ index. behind (offset_in at) _ (λ from. behind (judged count (byte_range_of from (next_word count))) _ (λ range. behind (judged kind (choice_of (codes "exclusive") (codes "shared") (next_word kind))) _ (λ exclusive. behind (end_of (behind_next kind)) _ (λ u. refl)))))
+locks k = behind (lock_in k) _ (λ lock. refl)
 
 unlocks : (k : List ℕ) → StandsInSession (unlock_call k)
 unfolding unlock_call
-unlocks k =
-    let at = behind_next k in
-    let count = behind_next at in
-    let kind = behind_next count in
-    behind (index_in k) _ (λ index. behind (offset_in at) _ (λ from. behind (judged count (byte_range_of from (next_word count))) _ (λ range. behind (judged kind (choice_of (codes "exclusive") (codes "shared") (next_word kind))) _ (λ exclusive. behind (end_of (behind_next kind)) _ (λ u. refl)))))
+unlocks k = behind (lock_in k) _ (λ lock. refl)
 
 stats : (k : List ℕ) → StandsInSession (stat_call k)
 unfolding stat_call
