@@ -10,8 +10,7 @@ ghost use Rattle.sx_run.specs.Words.{IsNoServe};
 use std::alloc::Global;
 use sx_key::{Account, AccountFault};
 use sx_names::{ShareName, Unnamed};
-use sx_run::WordsFault as ServeFault;
-use sx_run::{ServeWords, serve_words};
+use sx_run::{ServeWords, WordsFault as ServeFault, serve_words};
 use sx_tool::{Tool, tool_of};
 
 /// What the program is to do.
