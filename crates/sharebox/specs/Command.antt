@@ -15,6 +15,9 @@ use Rattle.sx_book.specs.History.{History}
 use Rattle.sx_book.specs.Passes.{with_noted}
 use Rattle.sx_book.specs.declared.report.ConnReport.{ConnReport}
 use Rattle.sx_rest_door.specs.Conversation.{LinkState as ConnLink}
+use Rattle.sx_run.specs.Crews.{Told}
+use Rattle.sx_run.specs.Doors.{Telling}
+use Rattle.sx_run.specs.Words.{IsServe, IsNoServe}
 use Rattle.sx_smb_door.specs.Conversation.{Conversation, HasText, HasPrefix, LinkState, Visit}
 use Rattle.sx_tool.specs.Tools.{Streams, Signs, Checks}
 use Rattle.sx_tool.specs.Typed.{IsSign, IsCheck, IsUnknown}
@@ -23,6 +26,7 @@ use Rattle.sharebox.specs.declared.command.Command.TheVariants as command
 use Rattle.sharebox.specs.declared.run.TheConstants.{SHARE_QUOTA, LOOPBACK}
 use Rattle.sharebox.specs.Conn.{IsConn, IsNoConn, IsConnRun}
 use Rattle.sharebox.specs.Limits.{history_limit, session_caller, input_budget, status_after_close}
+use Rattle.sharebox.specs.Serve.{IsServeRun, ports_of}
 
 -- the words are `session SHARE`
 abbrev pub IsSession : List (List ℕ) → List ℕ → Type 0
@@ -36,6 +40,7 @@ IsNoSession words = (share : List ℕ) → IsSession words share → ⊥
 abbrev pub IsCommand : Command → List (List ℕ) → Type 0
 IsCommand (command.Session share) words = IsSession words share
 IsCommand (command.Conn account) words = IsConn words account
+IsCommand (command.Serve serve) words = IsServe words serve
 IsCommand (command.Sign account) words = IsSign words account
 IsCommand (command.Check account now) words = IsCheck words account now
 
@@ -43,6 +48,7 @@ IsCommand (command.Check account now) words = IsCheck words account now
 pub record IsNoCommand (words : List (List ℕ)) : Type 0 where
   pub no_session : IsNoSession words
   pub no_conn : IsNoConn words
+  pub no_serve : IsNoServe words
   pub no_tool : IsUnknown words
 
 -- what is written where the words are no command
@@ -65,28 +71,34 @@ making share = CreateShare (record { share = share; quota = share_quota; meta = 
 abbrev pub creation : List ℕ → ℕ → Entry
 creation share moment = record { who = 0; session = 0; at = moment; fresh = 0; call = making share }
 
--- the program's input and output, its clock and its random source, before or after a run
-pub record Outside (K C R : Type 0) : Type 0 where
+-- the program's input and output, its clock, its random source and the listeners of both doors, before or after a run
+pub record Outside (K C R L : Type 0) : Type 0 where
   pub sides : Sides
   pub out : K
   pub clock : C
   pub random : R
+  pub rest : L
+  pub smb : L
+
+-- both listeners are as they were
+abbrev pub KeepsListeners : {K C R L : Type 0} → Outside K C R L → Outside K C R L → Type 0
+KeepsListeners old new = (new.rest ≡ old.rest) × (new.smb ≡ old.smb)
 
 -- the streams of a command over a head
-abbrev pub streams_of : {K C R : Type 0} → Outside K C R → Streams K
+abbrev pub streams_of : {K C R L : Type 0} → Outside K C R L → Streams K
 streams_of o = record { sides = o.sides; out = o.out }
 
 -- the link of a session, with its clock
-abbrev pub link_of : {K C R : Type 0} → Outside K C R → LinkState C
+abbrev pub link_of : {K C R L : Type 0} → Outside K C R L → LinkState C
 link_of o = record { sides = o.sides; clock = o.clock }
 
 -- the link of a connection, with its clock and random source
-abbrev pub conn_link_of : {K C R : Type 0} → Outside K C R → ConnLink C R
+abbrev pub conn_link_of : {K C R L : Type 0} → Outside K C R L → ConnLink C R
 conn_link_of o = record { sides = o.sides; clock = o.clock; random = o.random }
 
 -- the words are no command: the refusal was written, or a prefix of it where the write failed; nothing was read
-pub record RefusesWords {K C R : Type 0} (wrote : K → List ℕ → Type 0) (words : List (List ℕ)) (old new : Outside K C R)
-    (status : ℕ) : Type 0 where
+pub record RefusesWords {K C R L : Type 0} (wrote : K → List ℕ → Type 0) (words : List (List ℕ))
+    (old new : Outside K C R L) (status : ℕ) : Type 0 where
   pub unknown : IsNoCommand words
   pub status_is : status ≡ 1
   pub kept : new ≡ record old { sides = record old.sides { writes = new.sides.writes }; out = new.out }
@@ -94,7 +106,7 @@ pub record RefusesWords {K C R : Type 0} (wrote : K → List ℕ → Type 0) (wo
       ⊎ (HasPrefix (wrote old.out) (wrote new.out) refusal_line × Rose old.sides.writes new.sides.writes)
 
 -- no memory was left to read the words: nothing was read or written
-pub record LacksMemory {K C R : Type 0} (old new : Outside K C R) (status : ℕ) : Type 0 where
+pub record LacksMemory {K C R L : Type 0} (old new : Outside K C R L) (status : ℕ) : Type 0 where
   pub status_is : status ≡ 5
   pub same : new ≡ old
 
@@ -153,24 +165,30 @@ abbrev pub IsSessionRun : {C : Type 0} → (C → ℕ → C → Type 0) → List
 IsSessionRun ticks share wrote wrote' old new status =
     IsNotServed wrote wrote' old new status ⊎ IsServed ticks share wrote wrote' old new status
 
--- what a command does; a session leaves the random source, and one over a head leaves the clock, too
-abbrev pub IsRunOf : {K C R : Type 0} → Command → (K → List ℕ → Type 0) → (C → ℕ → C → Type 0) → (R → ℕ → R → Type 0)
-    → Outside K C R → Outside K C R → ℕ → Type 0
-IsRunOf (command.Session share) wrote ticks draws old new status =
-    (new.random ≡ old.random)
+-- what a command does; all but the service leave the listeners, a session leaves the random source, and one over a head
+-- leaves the clock, too
+abbrev pub IsRunOf : {K C R L Q : Type 0} → Command → (K → List ℕ → Type 0) → (C → ℕ → C → Type 0)
+    → (R → ℕ → R → Type 0) → (L → Told Q) → Telling Q → Outside K C R L → Outside K C R L → ℕ → Type 0
+IsRunOf (command.Session share) wrote ticks draws told tells old new status =
+    KeepsListeners old new × (new.random ≡ old.random)
     × IsSessionRun ticks share (wrote old.out) (wrote new.out) (link_of old) (link_of new) status
-IsRunOf (command.Conn account) wrote ticks draws old new status =
-    IsConnRun wrote ticks draws account old.out new.out (conn_link_of old) (conn_link_of new) status
-IsRunOf (command.Sign account) wrote ticks draws old new status =
-    (new.random ≡ old.random) × (new.clock ≡ old.clock)
+IsRunOf (command.Conn account) wrote ticks draws told tells old new status =
+    KeepsListeners old new
+    × IsConnRun wrote ticks draws account old.out new.out (conn_link_of old) (conn_link_of new) status
+IsRunOf (command.Serve serve) wrote ticks draws told tells old new status =
+    (new.sides ≡ record old.sides { writes = new.sides.writes })
+    × IsServeRun ticks draws tells serve (wrote old.out) (wrote new.out)
+    (ports_of told old.rest old.smb old.sides.writes) (ports_of told new.rest new.smb new.sides.writes) status
+IsRunOf (command.Sign account) wrote ticks draws told tells old new status =
+    KeepsListeners old new × (new.random ≡ old.random) × (new.clock ≡ old.clock)
     × Signs wrote account (streams_of old) (streams_of new) status
-IsRunOf (command.Check account now) wrote ticks draws old new status =
-    (new.random ≡ old.random) × (new.clock ≡ old.clock)
+IsRunOf (command.Check account now) wrote ticks draws told tells old new status =
+    KeepsListeners old new × (new.random ≡ old.random) × (new.clock ≡ old.clock)
     × Checks wrote account now (streams_of old) (streams_of new) status
 
 -- what the program does by its words
-abbrev pub Runs : {K C R : Type 0} → (K → List ℕ → Type 0) → (C → ℕ → C → Type 0) → (R → ℕ → R → Type 0)
-    → List (List ℕ) → Outside K C R → Outside K C R → ℕ → Type 0
-Runs wrote ticks draws words old new status =
+abbrev pub Runs : {K C R L Q : Type 0} → (K → List ℕ → Type 0) → (C → ℕ → C → Type 0) → (R → ℕ → R → Type 0)
+    → (L → Told Q) → Telling Q → List (List ℕ) → Outside K C R L → Outside K C R L → ℕ → Type 0
+Runs wrote ticks draws told tells words old new status =
     RefusesWords wrote words old new status ⊎ LacksMemory old new status
-    ⊎ (command : Command) × IsCommand command words × IsRunOf command wrote ticks draws old new status
+    ⊎ (command : Command) × IsCommand command words × IsRunOf command wrote ticks draws told tells old new status

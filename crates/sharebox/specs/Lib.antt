@@ -2,3 +2,4 @@ pub mod Command
 pub mod Conn
 pub mod Limits
 pub mod Opening
+pub mod Serve

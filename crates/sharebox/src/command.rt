@@ -5,10 +5,12 @@ ghost use Rattle.sx_names.specs.Names.{is_share_name};
 ghost use Rattle.sharebox.specs.declared.command.WordsFault.TheVariants as WordsFault;
 ghost use Rattle.sharebox.specs.Command.{IsCommand, IsSession, IsNoCommand, IsNoSession};
 ghost use Rattle.sharebox.specs.Conn.{IsNoConn, SpellsConn};
+ghost use Rattle.sx_run.specs.Words.{IsNoServe};
 
 use std::alloc::Global;
 use sx_key::{Account, AccountFault};
 use sx_names::{ShareName, Unnamed};
+use sx_run::{ServeWords, WordsFault as ServeFault, serve_words};
 use sx_tool::{Tool, tool_of};
 
 /// What the program is to do.
@@ -18,6 +20,8 @@ pub enum Command {
     Session(ShareName),
     /// `conn ACCOUNT KEY`: serve one connection, of requests that are signed for the account.
     Conn(Account),
+    /// `serve ..`: serve the links of two ports, of signed requests at one and of sessions at the other.
+    Serve(ServeWords),
     /// `sign ACCOUNT KEY`: sign the head of a request.
     Sign(Account),
     /// `check ACCOUNT KEY TICKS`: check a signed head at a moment, in units of 100 ns since 1970.
@@ -54,7 +58,7 @@ fn other_command(alloc: Global, words: &[String]) -> Result<Command, WordsFault>
     match conn_account(alloc, words) {
         Ok(account) => Ok(Command::Conn(account)),
         Err(WordsFault::NoMemory) => Err(WordsFault::NoMemory),
-        Err(WordsFault::Unknown) => tool_command(alloc, words),
+        Err(WordsFault::Unknown) => serve_command(alloc, words),
     }
 }
 
@@ -94,9 +98,24 @@ fn conn_of(alloc: Global, verb: &str, name: &[u8], key: &[u8]) -> Result<Account
 }
 
 /// The command of words that are neither `session SHARE` nor `conn ACCOUNT KEY`.
+fn serve_command(alloc: Global, words: &[String]) -> Result<Command, WordsFault>
+    requires session { IsNoSession (map string_bytes words.now) }
+    requires conn { IsNoConn (map string_bytes words.now) }
+    ensures command { IfOk result (λ command. IsCommand command (map string_bytes words.now)) }
+    ensures fault { IsErrOf result WordsFault.Unknown → IsNoCommand (map string_bytes words.now) }
+{
+    match serve_words(alloc, words) {
+        Ok(serve) => Ok(Command::Serve(serve)),
+        Err(ServeFault::NoMemory) => Err(WordsFault::NoMemory),
+        Err(ServeFault::Unknown) => tool_command(alloc, words),
+    }
+}
+
+/// The command of words that are neither `session SHARE`, `conn ACCOUNT KEY` nor `serve ..`.
 fn tool_command(alloc: Global, words: &[String]) -> Result<Command, WordsFault>
     requires session { IsNoSession (map string_bytes words.now) }
     requires conn { IsNoConn (map string_bytes words.now) }
+    requires serve { IsNoServe (map string_bytes words.now) }
     ensures command { IfOk result (λ command. IsCommand command (map string_bytes words.now)) }
     ensures fault { IsErrOf result WordsFault.Unknown → IsNoCommand (map string_bytes words.now) }
 {

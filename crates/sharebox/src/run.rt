@@ -16,10 +16,12 @@ use crate::command::{Command, WordsFault, command_of};
 use crate::conn::conn;
 use std::alloc::Global;
 use std::sync::Wait;
-use sx_base::{Both, Clock, NoMemory, Random, Sink, Source};
+use std::thread::Threads;
+use sx_base::{Both, Clock, Listener, NoMemory, Random, Sink, Source};
 use sx_book::{Book, CloseFault, ConnEnd, ConnReport, Office, Pass};
 use sx_call::{Call, CreateShare};
 use sx_names::{Meta, Quota, ShareName};
+use sx_run::serve;
 use sx_smb_door::serve_session;
 use sx_tool::{check_input, sign_input};
 
@@ -262,8 +264,10 @@ fn refuse_words<K: Sink>(out: &mut K) -> u8
 /// `sign ACCOUNT KEY` and `check ACCOUNT KEY TICKS` do what `sx_tool::run_tool` says, and ask no clock. All other words
 /// are refused with 1. `conn ACCOUNT KEY` serves one connection, of requests that are signed for the account, to an
 /// empty account, with the statuses of a session: 0 where the input was read to its end or a request closed it, 2 where
-/// a request was cut or can't be read. Only a connection draws random words.
-pub fn run<W: Wait, S: Source, K: Sink, C: Clock, R: Random>(
+/// a request was cut or can't be read. `serve RESTPORT SMBPORT RESTWORKERS SMBWORKERS CONNS LIMIT ACCOUNT KEY` does
+/// what `sx_run::serve` says over the two listeners, which all other commands leave as they are: 6 where a call of a
+/// listener failed. Only a connection and the service draw random words.
+pub fn run<W: Threads + Wait + Sync, S: Source, K: Sink, C: Clock, R: Random, L: Listener>(
     alloc: Global,
     rt: &W,
     words: &[String],
@@ -271,24 +275,42 @@ pub fn run<W: Wait, S: Source, K: Sink, C: Clock, R: Random>(
     out: &mut K,
     clock: &mut C,
     random: &mut R,
+    rest: &mut L,
+    smb: &mut L,
 ) -> u8
-    ensures { Runs K.wrote C.ticks R.draws (map string_bytes words.now)
+where
+    L::Link: Send,
+    ensures { Runs K.wrote C.ticks R.draws (λ l. record { links = L.links l; faults = L.listen_count l })
+        (record {
+          wrote = L.Link.wrote;
+          peer = L.Link.peer_of;
+          left = L.Link.left;
+          reads = L.Link.read_count;
+          writes = L.Link.write_count;
+          calls = L.Link.calls;
+        })
+        (map string_bytes words.now)
         (record {
           sides = record { left = S.left input.old; reads = S.read_count input.old; writes = K.write_count out.old };
           out = out.old;
           clock = clock.old;
           random = random.old;
+          rest = rest.old;
+          smb = smb.old;
         })
         (record {
           sides = record { left = S.left input.new; reads = S.read_count input.new; writes = K.write_count out.new };
           out = out.new;
           clock = clock.new;
           random = random.new;
+          rest = rest.new;
+          smb = smb.new;
         }) result }
 {
     match command_of(alloc, words) {
         Ok(Command::Session(share)) => session(alloc, rt, &share, input, out, clock),
         Ok(Command::Conn(account)) => conn(alloc, rt, &account, input, out, clock, random),
+        Ok(Command::Serve(serving)) => serve(alloc, rt, &serving, out, rest, smb, clock, random),
         Ok(Command::Sign(account)) => sign_input(alloc, &account, input, out),
         Ok(Command::Check(account, now)) => check_input(alloc, &account, now, input, out),
         Err(WordsFault::NoMemory) => NO_MEMORY,

@@ -4,7 +4,8 @@ use super::run::run;
 use std::alloc::Global;
 use std::process::Abort;
 use std::sync::Wait;
-use sx_base::{MemSink, MemSource, StepClock, StepWords};
+use std::thread::Threads;
+use sx_base::{MemLink, MemListener, MemSink, MemSource, StepClock, StepWords};
 
 /// No call fails.
 const NONE: u64 = 1_000_000;
@@ -20,7 +21,7 @@ struct Row {
     status: u8,
 }
 
-const ROWS: [Row; 24] = [
+const ROWS: [Row; 26] = [
     Row {
         words: &["session", "data"],
         input: b"",
@@ -320,7 +321,37 @@ const ROWS: [Row; 24] = [
         out: b"words refused\n",
         status: 1,
     },
+    Row {
+        words: &["serve", "0", "0", "0", "1", "1", "100", "acct", "a2V5"],
+        input: b"",
+        read: NONE,
+        put: NONE,
+        out: b"words refused\n",
+        status: 1,
+    },
+    Row {
+        words: &[
+            "serve", "8080", "4450", "1", "1", "1", "100", "acct", "a2V5",
+        ],
+        input: b"",
+        read: NONE,
+        put: 0,
+        out: b"",
+        status: 4,
+    },
 ];
+
+/// The service with one worker for each door, which serves one link.
+const SERVICE: Row = Row {
+    words: &[
+        "serve", "8080", "4450", "1", "1", "1", "100", "acct", "a2V5",
+    ],
+    input: b"",
+    read: NONE,
+    put: NONE,
+    out: b"rest 8080\nsmb 4450\n",
+    status: 0,
+};
 
 fn list<T: Copy>(rt: &impl Abort, alloc: Global, items: &[T]) -> Vec<T> {
     match Vec::from_slice(alloc, items) {
@@ -340,24 +371,56 @@ fn words_of(rt: &impl Abort, alloc: Global, row: &Row) -> Vec<String> {
     words
 }
 
-fn check_row<R: Abort + Wait>(rt: &R, alloc: Global, number: usize, row: &Row) {
+/// A listener with one link.
+fn listener(rt: &impl Abort, alloc: Global, bytes: &[u8]) -> MemListener {
+    let mut links = Vec::new(alloc);
+    let link = MemLink {
+        source: MemSource::new(list(rt, alloc, bytes), 7, Vec::new(alloc)),
+        sink: MemSink::new(alloc, Vec::new(alloc)),
+        peer: 7,
+    };
+    assert!(rt; links.push(link).is_ok());
+    match MemListener::new(alloc, links) {
+        Ok(listener) => listener,
+        Err(_) => panic!(rt; "no memory"),
+    }
+}
+
+fn status_of<R: Abort + Threads + Wait + Sync>(
+    rt: &R,
+    alloc: Global,
+    row: &Row,
+    out: &mut MemSink,
+    rest: &mut MemListener,
+    smb: &mut MemListener,
+) -> u8 {
     let words = words_of(rt, alloc, row);
     let reads = list(rt, alloc, &[row.read]);
     let mut input = MemSource::new(list(rt, alloc, row.input), 5, reads);
-    let mut out = MemSink::new(alloc, list(rt, alloc, &[row.put]));
     let mut clock = StepClock { at: 5, step: 1 };
     let mut random = StepWords { at: 0 };
-    let status = run(
+    run(
         alloc,
         rt,
         words.as_slice(),
         &mut input,
-        &mut out,
+        out,
         &mut clock,
         &mut random,
-    );
+        rest,
+        smb,
+    )
+}
+
+fn check_row<R: Abort + Threads + Wait + Sync>(rt: &R, alloc: Global, number: usize, row: &Row) {
+    let mut out = MemSink::new(alloc, list(rt, alloc, &[row.put]));
+    let mut rest = listener(rt, alloc, b"");
+    let mut smb = listener(rt, alloc, b"");
+    let status = status_of(rt, alloc, row, &mut out, &mut rest, &mut smb);
     assert_eq!(rt; status, row.status, "at {number}");
     assert!(rt; out.bytes() == row.out, "at {number}");
+    assert_eq!(rt; rest.left().len(), 1, "at {number}");
+    assert_eq!(rt; smb.left().len(), 1, "at {number}");
 }
 
 #[test]
@@ -365,4 +428,26 @@ fn commands_answer(rt: HostRuntime) {
     for (number, row) in ROWS.iter().enumerate() {
         check_row(&rt, rt.alloc(), number, row);
     }
+}
+
+fn check_served(rt: &impl Abort, listener: &MemListener, text: &[u8]) {
+    let finished = listener.finished();
+    assert_eq!(rt; finished.len(), 1);
+    assert!(rt; finished[0].sink.bytes() == text);
+}
+
+fn check_service<R: Abort + Threads + Wait + Sync>(rt: &R, alloc: Global) {
+    let mut out = MemSink::new(alloc, list(rt, alloc, &[NONE]));
+    let mut rest = listener(rt, alloc, b"");
+    let mut smb = listener(rt, alloc, b"close 1\n");
+    let status = status_of(rt, alloc, &SERVICE, &mut out, &mut rest, &mut smb);
+    assert_eq!(rt; status, SERVICE.status);
+    assert!(rt; out.bytes() == SERVICE.out);
+    check_served(rt, &rest, b"");
+    check_served(rt, &smb, b"ERR INVALID_HANDLE 2 handle 1.1\n");
+}
+
+#[test]
+fn the_service_is_reached(rt: HostRuntime) {
+    check_service(&rt, rt.alloc());
 }
