@@ -297,9 +297,7 @@ fn served<R: Abort + Wait>(
         panic!(rt; "no memory");
     };
     let mut clock = StepClock { at: 5, step: 1 };
-    let report = serve_session(
-        alloc, rt, &office, &mut pass, link, &mut clock, budget,
-    );
+    let report = serve_session(alloc, rt, &office, &mut pass, link, &mut clock, budget);
     match office.close(rt, pass) {
         Ok(book) => (report, book),
         Err(fault) => panic!(rt; "{} out", Office::abandon(fault)),
