@@ -160,6 +160,9 @@ fn opening(alloc: Global, who: u32, file: u32) -> Option<SmbOpen> {
     })
 }
 
+// Lets go of a value.
+pub(crate) fn let_go<T: Drop>(_value: T) {}
+
 // Whether an open was answered with a file that it made.
 fn was_made(answer: Result<Receipt, Stop>) -> bool {
     match answer {

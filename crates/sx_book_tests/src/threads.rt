@@ -1,7 +1,7 @@
 //! The office on two threads, each of which makes a hundred files in a session of its own.
 ghost use Rattle.std.specs.Prelude.{◌≡◌};
 
-use crate::common::{NOW, begun, closed, created, file_path, make_file, split};
+use crate::common::{NOW, begun, closed, created, file_path, let_go, make_file, split};
 use std::alloc::Global;
 use std::process::Abort;
 use std::sync::Wait;
@@ -32,16 +32,17 @@ fn run_lane<R: Wait>(rt: &R, alloc: Global, office: &Office, lane: &mut Lane)
     requires own { lane.old.pass.office ≡ office.now }
     ensures same { lane.new.pass.office ≡ office.now }
 {
-    let Ok((session, _)) = office.start(rt, &mut lane.pass, NOW, 7) else {
+    let Ok((session, receipt)) = office.start(rt, &mut lane.pass, NOW, 7) else {
         lane.failed = true;
         return;
     };
+    let_go(receipt);
     for file in 0..100 {
         if !make_file(rt, alloc, office, &mut lane.pass, &session, file) {
             lane.failed = true;
         }
     }
-    office.end_session(rt, &mut lane.pass, NOW, session);
+    let_go(office.end_session(rt, &mut lane.pass, NOW, session));
 }
 
 // Runs two lanes, each in a thread of its own.
