@@ -8,7 +8,17 @@ use crate::listener::Listener;
 use crate::sink::Sink;
 use crate::source::Source;
 use std::io::{Read, Write};
-use std::net::{Ipv4Addr, Net, SocketAddr, TcpListener, TcpStream};
+use std::net::{Ipv4Addr, Net, Shutdown, SocketAddr, TcpListener, TcpStream};
+use std::time::Duration;
+
+/// The longest that a finished connection waits for its peer to send more or to close, in milliseconds.
+const LAST_WAIT_MILLIS: u64 = 500;
+
+/// How many reads of at most [`LAST_PIECE`] bytes a finished connection is given for what its peer still sends.
+const LAST_READS: u32 = 1024;
+
+/// The most bytes of one such read.
+const LAST_PIECE: usize = 16_384;
 
 /// A TCP connection. It tells no content.
 #[derive(Drop)]
@@ -32,6 +42,25 @@ impl TcpLink {
             peer: address_of(peer),
             read_faults: 0,
             write_faults: 0,
+        }
+    }
+
+    /// Ends the sending side, and then reads and drops what the peer still sends until it closes, is silent for
+    /// [`LAST_WAIT_MILLIS`], or has had [`LAST_READS`] reads (RFC 9112, section 9.6: a connection that is closed
+    /// with bytes unread is reset, and its peer may lose the last answer).
+    fn close_gently(mut self) {
+        let wait = Duration::from_millis(LAST_WAIT_MILLIS);
+        if self.stream.shutdown(Shutdown::Write).is_err()
+            || self.stream.set_read_timeout(Some(wait)).is_err()
+        {
+            return;
+        }
+        let mut piece = [0u8; LAST_PIECE];
+        for _ in 0..LAST_READS {
+            match self.stream.read(&mut piece) {
+                Ok(count) if count > 0 => {}
+                _ => return,
+            }
         }
     }
 }
@@ -176,7 +205,7 @@ impl<R: Net<Listener = TcpListener, Stream = TcpStream> + Send + Drop + Copy> Li
     }
 
     fn finish(&mut self, link: TcpLink) {
-        drop(link);
+        link.close_gently();
     }
 
     fn fork(&mut self) -> Result<Self, Failed> {

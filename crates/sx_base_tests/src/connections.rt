@@ -83,3 +83,24 @@ fn faults_of_ports(rt: HostRuntime) {
     listener.rejoin(second);
     assert_eq!(rt; listener.listen_faults(), 2);
 }
+
+/// A link that is finished with bytes unread, as after a request whose body is too long, has its answer read.
+#[test]
+fn an_answer_before_the_last_byte(rt: HostRuntime) {
+    let mut listener = LoopbackListener::new(rt);
+    let mut dialer = LoopbackDialer::new(rt);
+    let port = a_port(&rt, &mut listener);
+    let mut dialed = a_link(&rt, &mut dialer, port);
+    let body = [7u8; 65_536];
+    assert_eq!(rt; dialed.put(&body), Ok(()));
+    match listener.accept() {
+        Ok(Some(mut link)) => {
+            assert_eq!(rt; link.put(b"pong!"), Ok(()));
+            listener.finish(link);
+        }
+        _ => panic!(rt; "no dialed link"),
+    }
+    assert!(rt; came(&mut dialed, b"pong!"));
+    assert!(rt; came(&mut dialed, b""));
+    assert_eq!(rt; dialed.read_faults(), 0);
+}
