@@ -18,7 +18,8 @@ use Rattle.sx_rest_door.specs.Conversation.{LinkState as ConnLink}
 use Rattle.sx_run.specs.Crews.{Told}
 use Rattle.sx_run.specs.Doors.{Telling}
 use Rattle.sx_run.specs.Words.{IsServe, IsNoServe}
-use Rattle.sx_smb_door.specs.Conversation.{Conversation, HasText, HasPrefix, LinkState, Visit}
+use Rattle.sx_book.specs.Reports.{HasPrefix, HasText}
+use Rattle.sx_smb_door.specs.Conversation.{Conversation, LinkState, Visit}
 use Rattle.sx_tool.specs.Tools.{Streams, Signs, Checks}
 use Rattle.sx_tool.specs.Typed.{IsSign, IsCheck, IsUnknown}
 use Rattle.sharebox.specs.declared.command.Command.{Command}

@@ -47,7 +47,7 @@ use Rattle.sx_spec.specs.Changes.{Act, grant, add_share, drop_share, make_node, 
 use Rattle.sx_spec.specs.Changes.{put_open, put_lock, take_lock, change_open, take_open, close, close_all, put_session}
 use Rattle.sx_spec.specs.Changes.{take_session}
 use Rattle.sx_spec.specs.History.{is_of_caller}
-use Rattle.sx_spec.proofs.Live.{all_sessions}
+use Rattle.sx_spec.proofs.Views.{all_sessions, stays, stays_by, stays_in}
 use Rattle.sx_spec.specs.ShareCalls.{create_share, get_share_properties, get_share_metadata, set_share_properties}
 use Rattle.sx_spec.specs.ShareCalls.{set_share_metadata, delete_share, delete_snapshot, snapshot_share, lease_share}
 use Rattle.sx_spec.specs.FileCalls.{create_directory, create_file, create_file_in, get_directory_properties}
@@ -98,208 +98,15 @@ found_without who q s (l ∷ ls) ne =
 
 -- In stores.
 
-close_sessions : (o : Open) (s : Store) → (close o s).sessions ≡ s.sessions
-unfolding close take_open
-close_sessions o s = refl
-
 module _ (who q : ℕ) where
   abbrev caller : Store → Bool
   caller s = is_of_caller who (session_of s q)
 
-  share_added : (s : Store) (x : Share) → caller (add_share x s) ≡ caller s
-  unfolding add_share
-  share_added s x = refl
+  abbrev view : List Live → Bool
+  view ls = is_of_caller who (find (is_session q) ls)
 
-  share_dropped : (s : Store) (number : ℕ) → caller (drop_share number s) ≡ caller s
-  unfolding drop_share
-  share_dropped s number = refl
-
-  node_made : (s : Store) (number : ℕ) (name : List ℕ) (node : Node) → caller (make_node number name node s) ≡ caller s
-  unfolding make_node
-  node_made s number name node = refl
-
-  facts_put : (s : Store) (number id : ℕ) (f : Facts → Facts) → caller (put_facts number id f s) ≡ caller s
-  unfolding put_facts
-  facts_put s number id f = refl
-
-  file_put : (s : Store) (number id : ℕ) (g : FileBody → FileBody) (f : Facts → Facts)
-      → caller (put_file number id g f s) ≡ caller s
-  unfolding put_file
-  file_put s number id g f = refl
-
-  node_deleted : (s : Store) (number id : ℕ) → caller (delete_at number id s) ≡ caller s
-  unfolding delete_at
-  node_deleted s number id = refl
-
-  lock_put : (s : Store) (l : Lock) → caller (put_lock l s) ≡ caller s
-  unfolding put_lock
-  lock_put s l = refl
-
-  lock_taken : (s : Store) (l : Lock) → caller (take_lock l s) ≡ caller s
-  unfolding take_lock
-  lock_taken s l = refl
-
-  open_changed : (s : Store) (handle : Handle) (f : Open → Open) → caller (change_open handle f s) ≡ caller s
-  unfolding change_open
-  open_changed s handle f = refl
-
-  open_put : (s : Store) (o : Open) → caller (put_open o s) ≡ caller s
-  unfolding put_open
-  open_put s o = granted_caller who q (is_session o.handle.session) s.sessions
-
-  one_closed : (o : Open) (s : Store) → caller (close o s) ≡ caller s
-  one_closed o s = ap (λ ls. is_of_caller who (find (is_session q) ls)) (close_sessions o s)
-
-  all_closed : (os : List Open) (s : Store) → caller (close_all os s) ≡ caller s
-  all_closed os s = ap (λ ls. is_of_caller who (find (is_session q) ls)) (all_sessions os s)
-
-  -- Acts.
-
-  -- after an act the session is its caller's exactly where it was before
-  abbrev Stays : Store → Result Act Refusal → Type 0
-  Stays s (Ok act) = caller act.store ≡ caller s
-  Stays s (Err r) = Unit {0}
-
-  stays_at : {P : Type 0} (s : Store) (r : Result P Refusal) (f : P → Act) → ((p : P) → caller (f p).store ≡ caller s)
-      → Stays s (at_place r f)
-  stays_at s (Ok p) f each = each p
-  stays_at s (Err e) f each = tt
-
-  stays_then : {P : Type 0} (s : Store) (r : Result P Refusal) (f : P → Result Act Refusal) → ((p : P) → Stays s (f p))
-      → Stays s (r >>= f)
-  stays_then s (Ok p) f each = each p
-  stays_then s (Err e) f each = tt
-
-  make_stays_directory : (s : Store) (now : Stamp) (at : Target) (attributes : Attributes) (created written : Option ℕ) (meta : List MetaPair) → Stays s (create_directory s now at attributes created written meta)
-  make_stays_directory s now at attributes created written meta = stays_then s (making_place s at) _ (λ place.
-      stays_then s (free_in place.1) _ (λ free. node_made s _ _ _))
-
-  file_in_stays : (s : Store) (now : Stamp) (call : Call) (body : FileBody) (attributes : Attributes) (created written : Option ℕ) (meta : List MetaPair) (place : Volume × Spot) → Stays s (create_file_in s now call body attributes created written meta place)
-  file_in_stays s now call body attributes created written meta (volume, Free parent name) = node_made s _ _ _
-  file_in_stays s now call body attributes created written meta (volume, Taken node) =
-      stays_then s (file_at None (record { volume = volume; node = node })) _ (λ p. file_put s _ _ _ _)
-
-  file_stays : (s : Store) (now : Stamp) (call : Call) (at : Target) (body : FileBody) (attributes : Attributes) (created written : Option ℕ) (meta : List MetaPair) → Stays s (create_file s now call at body attributes created written meta)
-  file_stays s now call at body attributes created written meta = stays_then s (making_place s at) _ (λ place.
-      file_in_stays s now call body attributes created written meta place)
-
-  spot_stays : (s : Store) (now : Stamp) (session : ℕ) (call : Call) (access : Access) (mode : Mode) (dir on_close : Bool) (volume : Volume) (spot : Spot) → Stays s (open_spot s now session call access mode dir on_close volume spot)
-  spot_stays s now session call access mode dir on_close volume (Taken node) = stays_then s (of_kind dir node) _ (λ kind.
-      stays_then s (not_pending None node) _ (λ standing. open_put s _))
-  spot_stays s now session call access mode dir on_close volume (Free parent name) =
-      open_put (make_node volume.number name _ s) _ ∙ node_made s _ _ _
-
-  open_stays : (s : Store) (now : Stamp) (session : ℕ) (call : Call) (share : List ℕ) (path : List (List ℕ)) (access : Access) (mode : Mode) (how : How) (dir on_close : Bool) → Stays s (smb_open s now session call share path access mode how dir on_close)
-  open_stays s now session call share path access mode how dir on_close =
-      stays_then s (volume_at s share None) _ (λ volume.
-      stays_then s (spot_at volume.tree path) _ (λ spot.
-      stays_then s (spot_for how volume.tree spot) _ (λ wanted.
-      spot_stays s now session call access mode dir on_close volume wanted)))
-
-  -- a call that neither starts nor ends a session
-  abbrev is_other : Door → Bool
-  is_other Rest = true
-  is_other Starts = false
-  is_other Ends = false
-  is_other InSession = true
-
-  starts_else : is_other Starts ≡ true → ⊥
-  starts_else e = true≢false (sym e)
-
-  ends_else : is_other Ends ≡ true → ⊥
-  ends_else e = true≢false (sym e)
-
-  stays : (s : Store) (now : Stamp) (e : Entry) (call : Call) → is_other (door_of call) ≡ true
-      → Stays s (act_of s now e call)
-  stays s now e (ListShares c) rest = refl
-  stays s now e (CreateShare c) rest =
-      stays_at s (vacancy s c.share) (λ number. create_share s now c.share c.quota c.meta) (λ p. share_added s _)
-  stays s now e (GetShareProperties c) rest =
-      stays_at s (volume_at s c.share c.scope.snap) (get_share_properties s e.call) (λ p. refl)
-  stays s now e (SetShareProperties c) rest =
-      stays_at s (volume_at s c.share None) (set_share_properties s now e.call c.quota) (λ p. refl)
-  stays s now e (GetShareMetadata c) rest =
-      stays_at s (volume_at s c.share c.scope.snap) (get_share_metadata s e.call) (λ p. refl)
-  stays s now e (SetShareMetadata c) rest =
-      stays_at s (volume_at s c.share None) (set_share_metadata s now e.call c.meta) (λ p. refl)
-  stays s now e (DeleteShare c) rest =
-      stays_at s (share_at s c.share) (delete_share s e.call c.include) (λ p. share_dropped s _)
-  stays s now e (DeleteSnapshot c) rest =
-      stays_at s (volume_at s c.share (Some c.moment)) (delete_snapshot s c.moment) (λ p. refl)
-  stays s now e (SnapshotShare c) rest =
-      stays_at s (share_at s c.share) (snapshot_share s now c.meta) (λ p. refl)
-  stays s now e (LeaseShare c) rest =
-      stays_at s (volume_at s c.share None) (lease_share s c.action e.fresh) (λ p. refl)
-  stays s now e (CreateDirectory c) rest = make_stays_directory s now c.at c.attributes c.created c.written c.meta
-  stays s now e (GetDirectoryProperties c) rest =
-      stays_at s (directory_place s c.at c.snap) (get_directory_properties s) (λ p. refl)
-  stays s now e (GetDirectoryMetadata c) rest =
-      stays_at s (directory_place s c.at c.snap) (get_directory_metadata s) (λ p. refl)
-  stays s now e (SetDirectoryMetadata c) rest =
-      stays_at s (directory_place s c.at None) (set_directory_metadata s now c.meta) (λ p. facts_put s _ _ _)
-  stays s now e (DeleteDirectory c) rest =
-      stays_at s (directory_place s c.at None) (delete_directory s e.call) (λ p. node_deleted s _ _)
-  stays s now e (ListDirectory c) rest =
-      stays_at s (directory_place s c.at c.snap) (list_directory s c.prefix c.marker c.max) (λ p. refl)
-  stays s now e (CreateFile c) rest =
-      file_stays s now e.call c.at (new_file c.length c.content) c.attributes c.created c.written c.meta
-  stays s now e (GetFile c) rest =
-      stays_at s (file_place s c.at c.scope.snap) (get_file s e.call c.span) (λ p. refl)
-  stays s now e (GetFileProperties c) rest =
-      stays_at s (file_place s c.at c.scope.snap) (get_file_properties s e.call) (λ p. refl)
-  stays s now e (SetFileProperties c) rest =
-      stays_at s (file_place s c.at None) (set_file_properties s now e.call c.length c.content c.attributes c.created c.written) (λ p. file_put s _ _ _ _)
-  stays s now e (GetFileMetadata c) rest =
-      stays_at s (file_place s c.at c.scope.snap) (get_file_metadata s e.call) (λ p. refl)
-  stays s now e (SetFileMetadata c) rest =
-      stays_at s (file_place s c.at None) (set_file_metadata s now e.call c.meta) (λ p. facts_put s _ _ _)
-  stays s now e (UpdateRange c) rest =
-      stays_at s (file_place s c.at None) (update_range s now e.call c.update.from c.update.piece) (λ p. file_put s _ _ _ _)
-  stays s now e (ClearRange c) rest =
-      stays_at s (file_place s c.at None) (clear_range s now e.call c.range.from c.range.end) (λ p. file_put s _ _ _ _)
-  stays s now e (ListRanges c) rest =
-      stays_at s (file_place s c.at c.scope.snap) (list_ranges s e.call c.span) (λ p. refl)
-  stays s now e (DeleteFile c) rest =
-      stays_at s (file_place s c.at None) (delete_file s e.call) (λ p. node_deleted s _ _)
-  stays s now e (LeaseFile c) rest =
-      stays_at s (file_place s c.at None) (lease_file s c.action e.fresh) (λ p. facts_put s _ _ _)
-  stays s now e (ListHandles c) rest =
-      stays_at s (node_place s c.at None) (list_handles s c.marker c.max c.recursive) (λ p. refl)
-  stays s now e (ForceCloseHandles c) rest =
-      stays_at s (node_place s c.at None) (force_close_handles s c.handle c.recursive) (λ p. all_closed _ s)
-  stays s now e (Start c) rest = absurd (starts_else rest)
-  stays s now e End rest = absurd (ends_else rest)
-  stays s now e (SmbOpen c) rest =
-      open_stays s now e.session e.call c.share c.path c.access.access c.mode c.how c.dir c.access.on_close
-  stays s now e (SmbClose c) rest =
-      stays_at s (handle_place s (handle_in e c.index) (access_needed e.call)) (smb_close s) (λ p. one_closed p.held s)
-  stays s now e (SmbRead c) rest =
-      stays_at s (held_file s (handle_in e c.index) (access_needed e.call)) (smb_read s e.call c.range.at c.range.count) (λ p. refl)
-  stays s now e (SmbWrite c) rest =
-      stays_at s (held_file s (handle_in e c.index) (access_needed e.call)) (smb_write s now e.call c.write.at c.write.piece) (λ p. file_put s _ _ _ _)
-  stays s now e (SmbResize c) rest =
-      stays_at s (held_file s (handle_in e c.index) (access_needed e.call)) (smb_resize s now e.call c.length) (λ p. file_put s _ _ _ _)
-  stays s now e (SmbLock c) rest =
-      stays_at s (held_file s (handle_in e c.index) (access_needed e.call)) (smb_lock s c.range.from c.range.end c.exclusive) (λ p. lock_put s _)
-  stays s now e (SmbUnlock c) rest =
-      stays_at s (held_file s (handle_in e c.index) (access_needed e.call)) (smb_unlock s c.range.from c.range.end c.exclusive) (λ p. lock_taken s _)
-  stays s now e (SmbStat c) rest =
-      stays_at s (handle_place s (handle_in e c.index) (access_needed e.call)) (smb_stat s) (λ p. refl)
-  stays s now e (SmbList c) rest =
-      stays_at s (held_directory s (handle_in e c.index) (access_needed e.call)) (smb_list s c.marker c.max) (λ p. refl)
-  stays s now e (SmbDispose c) rest =
-      stays_at s (handle_place s (handle_in e c.index) (access_needed e.call)) (smb_dispose s e.call c.on) (λ p. open_changed s _ _)
-
-  -- The step.
-
-  stays_by : (s : Store) (act : Act) (o : Option Refusal) → caller act.store ≡ caller s
-      → caller (unless_refused s act o).0 ≡ caller s
-  stays_by s act None same = same
-  stays_by s act (Some r) same = refl
-
-  stays_in : (s : Store) (x : Result Act Refusal) → Stays s x → caller (outcome s x).0 ≡ caller s
-  stays_in s (Ok act) same = stays_by s act (first_check s act.checks) same
-  stays_in s (Err r) same = refl
+  abbrev granted : (p : Live → Bool) (ls : List Live) → view (change p grant ls) ≡ view ls
+  granted p ls = granted_caller who q p ls
 
   lives_by : (s : Store) (act : Act) (o : Option Refusal) → caller act.store ≡ true → caller s ≡ true
       → caller (unless_refused s act o).0 ≡ true
@@ -321,8 +128,8 @@ module _ (who q : ℕ) where
   lives s now e (Start c) other live =
       lives_by s (start s e.who c.peer) (first_check s (start s e.who c.peer).checks) (started_lives s e.who c.peer live) live
   lives s now e End other live =
-      stays_by s (end_session s e.session) (first_check s (end_session s e.session).checks) (ended_stays s e.session (other refl)) ∙ live
-  lives s now e call other live = stays_in s (act_of s now e call) (stays s now e call refl) ∙ live
+      stays_by view granted s (end_session s e.session) (first_check s (end_session s e.session).checks) (ended_stays s e.session (other refl)) ∙ live
+  lives s now e call other live = stays_in view granted s (act_of s now e call) (stays view granted s now e call refl) ∙ live
 
   -- an entry that is no End of the session leaves it live
   pub step_lives : (a : Account) (e : Entry) → (e.call ≡ End → e.session ≢ q) → caller a.store ≡ true

@@ -7,3 +7,4 @@ pub mod Appended
 pub mod Held
 pub mod Growth
 pub mod Calls
+pub mod Texts

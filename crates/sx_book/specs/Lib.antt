@@ -2,3 +2,4 @@ pub mod History
 pub mod Book
 pub mod Passes
 pub mod OneHistory
+pub mod Reports

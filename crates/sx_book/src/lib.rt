@@ -15,7 +15,7 @@ pub use book::Book;
 pub use laws::{calls_come, histories_grow};
 pub use office::Office;
 pub use pass::{Pass, Receipt, Session};
-pub use report::{ConnEnd, ConnReport, Full};
+pub use report::{ConnEnd, ConnReport, Full, Tally};
 pub use sx_call::Stop;
 pub use sx_memory::NoMemory;
 pub use sx_state::State;

@@ -1,4 +1,8 @@
 //! What became of a connection or session.
+ghost use Rattle.std.specs.Prelude.{◌≡◌};
+ghost use Rattle.sx_book.specs.Reports.{tally_with_stop};
+
+use sx_call::Stop;
 
 /// The history's numbers when it had no place for a call.
 #[derive(Clone, Copy, Debug, PartialEq, Eq)]
@@ -51,4 +55,37 @@ pub struct ConnReport {
     pub full: Option<Full>,
     /// Whether a line or call was answered with out of memory.
     pub starved: bool,
+}
+
+/// The counts of a connection or session so far.
+#[derive(Clone, Copy, Debug, PartialEq, Eq)]
+pub struct Tally {
+    /// How many calls were handed to the office.
+    pub asked: u64,
+    /// The numbers of the last answer that the history was full.
+    pub full: Option<Full>,
+    /// Whether a request, a line or a call was answered with out of memory.
+    pub no_memory: bool,
+}
+
+impl Tally {
+    /// Counts a call that was not appended.
+    pub fn note(&mut self, stop: Stop)
+        ensures { self.new ≡ tally_with_stop self.old stop }
+    {
+        match stop {
+            Stop::NoMemory => self.no_memory = true,
+            Stop::HistoryFull {
+                entries,
+                sessions,
+                limit,
+            } => {
+                self.full = Some(Full {
+                    entries,
+                    sessions,
+                    limit,
+                });
+            }
+        }
+    }
 }

@@ -4,9 +4,10 @@ ghost use Rattle.sx_base.specs.Printer.{Gathers};
 ghost use Rattle.sx_reply.specs.Values.{text_if};
 ghost use Rattle.sx_lines.specs.Printed.{attributes_text};
 
-use crate::gather::{Gathered, Word, gather};
+use crate::gather::{Word, gather};
 use sx_base::{Failed, Sink};
 use sx_names::Attributes;
+use sx_reply::Gathered;
 
 /// Whether one of two is set.
 fn either(one: bool, other: bool) -> bool

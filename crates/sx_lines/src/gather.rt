@@ -1,5 +1,5 @@
 //! Gathering the texts of an answer on the stack, so that it is put at once.
-ghost use Rattle.std.specs.Prelude.{◌≡◌, ◌<◌, ◌∷◌, [], OnOk};
+ghost use Rattle.std.specs.Prelude.{◌≡◌, ◌<◌, ◌∷◌, []};
 ghost use Rattle.std.specs.List.{flat_map};
 ghost use Rattle.hex.specs.Hex.{encode_lower};
 ghost use Rattle.sx_base.specs.Sink.{Prints};
@@ -7,15 +7,9 @@ ghost use Rattle.sx_base.specs.Printer.{Gathers};
 ghost use Rattle.sx_listing.specs.Percent.{percent_byte, percent_text, is_unreserved, upper_digit};
 ghost use Rattle.sx_lines.specs.Printed.{word_text};
 
-use arrayvec::ArrayVec;
 use itoa::Buffer;
 use sx_base::{Failed, Sink};
-
-/// How many bytes are gathered at most, before they are put.
-const ROOM: usize = 4_096;
-
-/// Bytes that are to be put together.
-pub(crate) type Gathered = ArrayVec<u8, ROOM>;
+use sx_reply::{Gathered, gather_bytes, put_gathered};
 
 /// A part of an answer.
 #[derive(Clone, Copy)]
@@ -161,40 +155,5 @@ fn upper_digit(number: u8) -> u8
         b'0' + number
     } else {
         b'A' - 10 + number
-    }
-}
-
-/// Gathers bytes. Where there is no room for them, they are put behind what was gathered.
-pub(crate) fn gather_bytes<K: Sink>(
-    sink: &mut K,
-    gathered: &mut Gathered,
-    bytes: &[u8],
-) -> Result<(), Failed>
-    ensures { Gathers K.wrote K.write_count K.puts sink.old sink.new gathered.old.items gathered.new.items bytes.now
-        result }
-{
-    let Err(_no_room) = gathered.try_extend_from_slice(bytes) else {
-        return Ok(());
-    };
-    match put_gathered(sink, gathered) {
-        Ok(()) => sink.put(bytes),
-        Err(failed) => Err(failed),
-    }
-}
-
-/// Puts what was gathered.
-pub(crate) fn put_gathered<K: Sink>(sink: &mut K, gathered: &mut Gathered) -> Result<(), Failed>
-    ensures printed { Prints K.wrote K.write_count K.puts sink.old sink.new gathered.old.items result }
-    ensures emptied { OnOk result (gathered.new.items ≡ []) }
-{
-    if gathered.is_empty() {
-        return Ok(());
-    }
-    match sink.put(gathered.as_slice()) {
-        Ok(()) => {
-            gathered.clear();
-            Ok(())
-        }
-        Err(failed) => Err(failed),
     }
 }

@@ -6,11 +6,12 @@ ghost use Rattle.sx_base.specs.Printer.{Gathers};
 ghost use Rattle.sx_lines.specs.Printed.{word_text, item_text, slashed, path_text, middle_text};
 
 use crate::attributes::gather_attributes;
-use crate::gather::{Gathered, Word, gather, put_gathered};
+use crate::gather::{Word, gather};
 use crate::view::gather_view;
 use sx_base::{Failed, Sink};
 use sx_extent::View;
 use sx_names::{Attributes, NameItem, Part};
+use sx_reply::{Gathered, put_gathered};
 
 /// The part in the middle of a line.
 #[derive(Clone, Copy)]

@@ -4,10 +4,11 @@ ghost use Rattle.hex.specs.Hex.{encode_lower};
 ghost use Rattle.sx_base.specs.Printer.{Gathers};
 ghost use Rattle.sx_extent.specs.View.{part};
 
-use crate::gather::{Gathered, gather_hex};
+use crate::gather::gather_hex;
 use std::cmp::min;
 use sx_base::{Failed, Sink};
 use sx_extent::View;
+use sx_reply::Gathered;
 
 /// How many bytes of a file are read at once at most.
 const PIECE: usize = 4_096;

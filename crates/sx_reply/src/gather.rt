@@ -12,8 +12,8 @@ use sx_base::{Failed, Sink};
 /// How many bytes are gathered at most, before they are put.
 const ROOM: usize = 4_096;
 
-/// Bytes that are to be put together.
-pub(crate) type Gathered = ArrayVec<u8, ROOM>;
+/// Bytes that are to be put together, at most 4,096.
+pub type Gathered = ArrayVec<u8, ROOM>;
 
 /// A part of a text: words as they stand, or a number.
 #[derive(Clone, Copy)]
@@ -67,8 +67,9 @@ fn gather_word<K: Sink>(sink: &mut K, gathered: &mut Gathered, word: &Word) -> R
     }
 }
 
-/// Gathers bytes. Where there is no room for them, they are put behind what was gathered.
-pub(crate) fn gather_bytes<K: Sink>(
+/// Gathers bytes. Where there is no room for them, they are put behind what was gathered; where that fails, a prefix of
+/// all was written.
+pub fn gather_bytes<K: Sink>(
     sink: &mut K,
     gathered: &mut Gathered,
     bytes: &[u8],
@@ -85,8 +86,8 @@ pub(crate) fn gather_bytes<K: Sink>(
     }
 }
 
-/// Puts what was gathered.
-pub(crate) fn put_gathered<K: Sink>(sink: &mut K, gathered: &mut Gathered) -> Result<(), Failed>
+/// Puts what was gathered, at once; nothing is gathered then.
+pub fn put_gathered<K: Sink>(sink: &mut K, gathered: &mut Gathered) -> Result<(), Failed>
     ensures printed { Prints K.wrote K.write_count K.puts sink.old sink.new gathered.old.items result }
     ensures emptied { OnOk result (gathered.new.items ≡ []) }
 {

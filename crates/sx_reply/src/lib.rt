@@ -20,6 +20,7 @@ mod view;
 
 pub use answer::{Answer, AuthText, Said, Shape, WireText};
 pub use faults::put_auth;
+pub use gather::{Gathered, gather_bytes, put_gathered};
 pub use laws::heads_state_lengths;
 pub use printing::{is_printed, print};
 pub use refusals::{code_of, has_code, put_message, status_of, word_of};

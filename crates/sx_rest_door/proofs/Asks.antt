@@ -20,7 +20,8 @@ use Rattle.sx_book.proofs.Growth.{get_behind}
 use Rattle.sx_reply.specs.PrintedReply.{is_printed, is_reply_printed}
 use Rattle.sx_reply.specs.declared.answer.Answer.{Answer}
 use Rattle.sx_reply.specs.declared.answer.Said.TheVariants.{Core, Stop as Stopped}
-use Rattle.sx_rest_door.specs.Asking.{DoorState, DrawsFresh, IsAnswered, IsOutcomeOf, KeepsHistory, tally_with_stop}
+use Rattle.sx_book.specs.Reports.{tally_with_stop}
+use Rattle.sx_rest_door.specs.Asking.{DoorState, DrawsFresh, IsAnswered, IsOutcomeOf, KeepsHistory}
 use Rattle.sx_rest_door.specs.Conversation.{called, call_with, fresh_of, moment_at}
 
 -- each reply to a call of the REST door can be printed

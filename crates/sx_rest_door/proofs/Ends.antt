@@ -24,9 +24,11 @@ use Rattle.sx_reply.specs.PrintedReply.{printed}
 use Rattle.sx_reply.specs.declared.answer.Answer.{Answer}
 use Rattle.sx_rest_door.specs.Asking.{DoorState, TurnState, Answers, RefusesOne, IsAnswered, IsServed, IsTurn, HearsNone, HearsRefused, HearsEnd}
 use Rattle.sx_rest_door.specs.Closing.{closes, shape_of}
-use Rattle.sx_rest_door.specs.Conversation.{AnsweredRequest, ComesTo, request_bytes, RefusedRequest, Talk, Follows, IsRefused, IsEnd, StaysOpen, ClosesLast, IsClosedBy, KeepsCounts, HasText, HasPrefix, HasBegun, BreaksAtAnswer, HasWritten, ServesRequests, answer_of, answer_text, answers_to, refusal_text, moment_behind, unreadable_of, no_tally, taken_at}
+use Rattle.sx_book.specs.Reports.{HasBegun, HasPrefix, HasText, KeepsCounts, no_tally, taken_at}
+use Rattle.sx_rest_door.specs.Conversation.{AnsweredRequest, ComesTo, request_bytes, RefusedRequest, Talk, Follows, IsRefused, IsEnd, StaysOpen, ClosesLast, IsClosedBy, BreaksAtAnswer, HasWritten, ServesRequests, answer_of, answer_text, answers_to, refusal_text, moment_behind, unreadable_of}
 use Rattle.sx_rest_door.specs.declared.hearing.Unreadable.{Unreadable}
-use Rattle.sx_rest_door.proofs.Turns.{Going, going_none, going_more, flat_more, text_none, text_more, text_begun, text_kept}
+use Rattle.sx_book.proofs.Texts.{text_begun, text_kept, text_more, text_none}
+use Rattle.sx_rest_door.proofs.Turns.{Going, going_none, going_more, flat_more}
 
 -- requests that were answered and left the connection open, with what was written for them
 abbrev pub Run : {C R : Type 0} → (C → ℕ → C → Type 0) → (R → ℕ → R → Type 0) → Account → Option (List ℕ) → Option (List ℕ) → C → C → DoorState R → DoorState R → ℕ → (List ℕ → Type 0) → (List ℕ → Type 0) → Type 0

@@ -17,6 +17,7 @@ use Rattle.sx_call.specs.declared.calls.Call.{Call}
 use Rattle.sx_call.specs.declared.entries.Noted.{Noted}
 use Rattle.sx_decode.specs.Spelling.{reading}
 use Rattle.sx_turn.proofs.Lists.{each_map, each_snoc}
+use Rattle.sx_book.proofs.Texts.{came_after}
 use Rattle.sx_book.specs.History.{History}
 use Rattle.sx_book.specs.OneHistory.{Came, appended, history_full, no_memory, Outcome, Asks, history_of}
 use Rattle.sx_book.specs.Passes.{PassView}
@@ -26,10 +27,11 @@ use Rattle.sx_reply.specs.declared.answer.Said.{Said}
 use Rattle.sx_reply.specs.PrintedReply.{is_printed}
 use Rattle.sx_rest_door.specs.Asking.{DoorState, IsAnswered, IsOutcomeOf, KeepsHistory, said_uncalled, tally_uncalled}
 use Rattle.sx_rest_door.specs.Asking.{IsJudged}
-use Rattle.sx_rest_door.specs.Conversation.{RequestOutcome, not_signed, no_call, not_read, called, AnsweredRequest, ComesTo, TellsMoment, IsAnsweredRequest, moment_at, calls_in, calls_of, words_in, words_of, tally_with, tally_after, tally_after_all, no_tally, request_bytes, HasText, HasPrefix, HasBegun}
+use Rattle.sx_book.specs.Reports.{no_tally}
+use Rattle.sx_rest_door.specs.Conversation.{RequestOutcome, not_signed, no_call, not_read, called, AnsweredRequest, ComesTo, TellsMoment, IsAnsweredRequest, moment_at, calls_in, calls_of, words_in, words_of, tally_after, tally_after_all, request_bytes}
 use Rattle.sx_rest_door.specs.declared.judging.Uncalled.{Uncalled}
 use Rattle.sx_rest_door.specs.declared.judging.Uncalled.TheVariants.{NotSigned, NoCall, NotRead}
-use Rattle.sx_rest_door.specs.declared.tally.Tally.{Tally}
+use Rattle.sx_book.specs.declared.report.Tally.{Tally}
 use Rattle.sx_rest_door.proofs.Asks.{none_keeps, keeps_join}
 
 pub tally_more : (limit : ℕ) (tally : Tally) (ts : List AnsweredRequest) (t : AnsweredRequest) → tally_after_all limit tally (ts ++ t ∷ []) ≡ tally_after limit (tally_after_all limit tally ts) t.outcome
@@ -140,23 +142,6 @@ module _ {C R : Type 0} (ticks : C → ℕ → C → Type 0) (draws : R → ℕ 
         words = subst (λ (ws : List ℕ). StepsThrough draws a.random ws c.random) (sym words) (steps_append draws a.random b.random c.random (words_of g.turns) (words_in last.outcome) g.words last.drawn);
       }
 
--- ---- what was written
--- nothing
-pub text_none : (wrote : List ℕ → Type 0) → HasText wrote wrote []
-text_none wrote m h = subst wrote (sym (append-nil m)) h
-
--- one text behind another
-pub text_more : (first second third : List ℕ → Type 0) (x y : List ℕ) → HasText first second x → HasText second third y → HasText first third (x ++ y)
-text_more first second third x y h k m w = subst third (append_assoc m x y) (k (m ++ x) (h m w))
-
--- a prefix of a text behind another
-pub text_begun : (first second third : List ℕ → Type 0) (x y : List ℕ) → HasText first second x → HasPrefix second third y → HasBegun first third x y
-text_begun first second third x y h k m w = k (m ++ x) (h m w)
-
--- what is told does not change where what was written does not
-pub text_kept : (first second third : List ℕ → Type 0) (x : List ℕ) → HasText first second x → ((m : List ℕ) → second m → third m) → HasText first third x
-text_kept first second third x h keep m w = keep (m ++ x) (h m w)
-
 -- ---- the answers to a request
 -- the call that it spells was asked
 pub asked_request : {R : Type 0} (draws : R → ℕ → R → Type 0) (account : Account) (r : Request) (moment : ℕ) (call : Call) (old new : DoorState R) (answer : Answer)
@@ -214,11 +199,6 @@ refused_request {R} draws account r moment NotRead pass random tally tally' answ
   answer_is = is;
   printed = ap (λ (a : Answer). is_printed a.said) is;
 }
-
-came_after : (limit : ℕ) (t : Tally) (c : Came) → (tally_with limit t c).asked ≡ t.asked
-came_after limit t (appended place reply) = refl
-came_after limit t (history_full n s) = refl
-came_after limit t no_memory = refl
 
 -- an outcome counts at most one call
 pub asked_after : (limit : ℕ) (t : Tally) (o : RequestOutcome) → (tally_after limit t o).asked ≤ t.asked + 1

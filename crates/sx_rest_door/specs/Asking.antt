@@ -30,16 +30,17 @@ use Rattle.sx_reply.specs.declared.answer.Answer.{Answer}
 use Rattle.sx_reply.specs.declared.answer.Said.{Said}
 use Rattle.sx_reply.specs.declared.answer.Said.TheVariants.{Auth, Syntax as Unspelled, Stop as Stopped}
 use Rattle.sx_rest_door.specs.Closing.{closes, shape_of}
-use Rattle.sx_rest_door.specs.Conversation.{RefusedRequest, refusal_text, HasText, HasPrefix}
+use Rattle.sx_book.specs.Reports.{HasPrefix, HasText, no_tally}
+use Rattle.sx_rest_door.specs.Conversation.{RefusedRequest, refusal_text}
 use Rattle.sx_rest_door.specs.Conversation.{RequestOutcome, called, Talk, ComesTo, TellsMoment, fault_of}
 use Rattle.sx_rest_door.specs.Conversation.{fresh_of, call_with, calls_in, calls_of, words_in, words_of, answer_of}
-use Rattle.sx_rest_door.specs.Conversation.{unreadable_of, tally_after, tally_after_all, no_tally, moments_in}
+use Rattle.sx_rest_door.specs.Conversation.{unreadable_of, tally_after, tally_after_all, moments_in}
 use Rattle.sx_rest_door.specs.declared.hearing.Heard.{Heard}
 use Rattle.sx_rest_door.specs.declared.hearing.Heard.TheVariants.{Asks as Hears, Refuses, Ends}
 use Rattle.sx_rest_door.specs.declared.hearing.Unreadable.{Unreadable}
 use Rattle.sx_rest_door.specs.declared.judging.Uncalled.{Uncalled}
 use Rattle.sx_rest_door.specs.declared.judging.Uncalled.TheVariants.{NotSigned, NoCall, NotRead}
-use Rattle.sx_rest_door.specs.declared.tally.Tally.{Tally}
+use Rattle.sx_book.specs.declared.report.Tally.{Tally}
 
 -- a connection's pass, its random source and its counts, before or after a call
 pub record DoorState (R : Type 0) : Type 0 where
@@ -113,13 +114,6 @@ abbrev pub tally_uncalled : Tally → Uncalled → Tally
 tally_uncalled t (NotSigned text) = t
 tally_uncalled t (NoCall syntax) = t
 tally_uncalled t NotRead = record t { no_memory = true }
-
--- the counts after a call that was not appended
-abbrev pub tally_with_stop : Tally → Stop → Tally
-tally_with_stop t NoMemory = record t { no_memory = true }
-tally_with_stop t (HistoryFull entries sessions limit) = record t {
-  full = Some (record { entries = entries; sessions = sessions; limit = limit });
-}
 
 -- a request was answered at a moment: what came of it, the moment that its answer tells, and what that left of pass,
 -- random source and counts; the answer can be printed

@@ -23,6 +23,7 @@ use Rattle.sx_call.specs.declared.refusals.Stop.TheVariants as stop
 use Rattle.sx_call.specs.declared.refusals.Syntax.{Syntax}
 use Rattle.sx_decode.specs.Spelling.{reading}
 use Rattle.sx_book.specs.History.{History}
+use Rattle.sx_book.specs.Reports.{HasBegun, HasText, KeepsCounts, no_tally, report_of, tally_with}
 use Rattle.sx_book.specs.OneHistory.{Came, appended, history_full, no_memory, Outcome, AreCallsIn}
 use Rattle.sx_book.specs.declared.report.ConnEnd.{ConnEnd}
 use Rattle.sx_book.specs.declared.report.ConnEnd.TheVariants as finish
@@ -37,7 +38,7 @@ use Rattle.sx_reply.specs.declared.answer.WireText.{WireText}
 use Rattle.sx_reply.specs.declared.answer.WireText.TheVariants as wire
 use Rattle.sx_rest_door.specs.Closing.{closes, shape_of}
 use Rattle.sx_rest_door.specs.declared.hearing.Unreadable.{Unreadable}
-use Rattle.sx_rest_door.specs.declared.tally.Tally.{Tally}
+use Rattle.sx_book.specs.declared.report.Tally.{Tally}
 
 -- what came of a request: its signature isn't accepted; it is no call; no memory was left to check or to read it; or
 -- its call was asked with two random words, and came to this
@@ -168,18 +169,6 @@ answers_to limit ts = flat_map (answer_text limit) ts
 abbrev pub request_bytes : List AnsweredRequest → List ℕ
 request_bytes ts = flat_map (λ (t : AnsweredRequest). t.bytes) ts
 
--- nothing was asked yet
-abbrev pub no_tally : Tally
-no_tally = record { asked = 0; full = None; no_memory = false }
-
--- what a report counts, after a call: the last time that the history was full, and whether memory ran out
-abbrev pub tally_with : ℕ → Tally → Came → Tally
-tally_with limit t (appended place reply) = t
-tally_with limit t (history_full entries sessions) = record t {
-  full = Some (record { entries = entries; sessions = sessions; limit = limit });
-}
-tally_with limit t no_memory = record t { no_memory = true }
-
 -- what a report counts, after a request
 abbrev pub tally_after : ℕ → Tally → RequestOutcome → Tally
 tally_after limit t (not_signed text) = t
@@ -302,26 +291,6 @@ IsClosedBy (finish.Closed None) turns = ClosesLast turns
 IsClosedBy finish.WriteFault turns = Unit {0}
 IsClosedBy end turns = AllByRecursion StaysOpen turns
 
--- the counts of failed reads and puts are as they were, but for that of the failure by which the connection ended
-abbrev pub KeepsCounts : ConnEnd → Sides → Sides → Type 0
-KeepsCounts finish.ReadFault old new = new.writes ≡ old.writes
-KeepsCounts finish.WriteFault old new = new.reads ≡ old.reads
-KeepsCounts end old new = (new.reads ≡ old.reads) × (new.writes ≡ old.writes)
-
--- the text was written behind what was written before
-abbrev pub HasText : (List ℕ → Type 0) → (List ℕ → Type 0) → List ℕ → Type 0
-HasText wrote wrote' text = (before : List ℕ) → wrote before → wrote' (before ++ text)
-
--- a prefix of the text was written behind what was written before
-abbrev pub HasPrefix : (List ℕ → Type 0) → (List ℕ → Type 0) → List ℕ → Type 0
-HasPrefix wrote wrote' text =
-    (before : List ℕ) → wrote before → (front : List ℕ) × IsPrefix front text × wrote' (before ++ front)
-
--- the text was written, and behind it a prefix of the last one
-abbrev pub HasBegun : (List ℕ → Type 0) → (List ℕ → Type 0) → List ℕ → List ℕ → Type 0
-HasBegun wrote wrote' text last =
-    (before : List ℕ) → wrote before → (front : List ℕ) × IsPrefix front last × wrote' ((before ++ text) ++ front)
-
 -- a write failed at the answer to the last request: those before it were written, and left the connection open, and a
 -- prefix of it
 pub record BreaksAtAnswer (limit : ℕ) (turns : List AnsweredRequest) (wrote wrote' : List ℕ → Type 0) : Type 0 where
@@ -353,23 +322,6 @@ pub record ServesRequests (account : Account) (h : History) (budget : ℕ) (t : 
   pub end : IsEnd t.end budget t old new
   pub closing : IsClosedBy t.end t.turns
   pub counts : KeepsCounts t.end old new
-
--- the bytes that are reported as taken: those of the requests, with those of one that was cut, and the budget where
--- it is spent
-abbrev pub taken_at : ConnEnd → ℕ → ℕ → ℕ
-taken_at (finish.Cut left) given budget = given + left
-taken_at finish.Spent given budget = budget
-taken_at end given budget = given
-
--- the report of a connection whose requests ended so
-abbrev pub report_of : ConnEnd → ℕ → ℕ → Tally → ConnReport
-report_of end given budget tally = record {
-  end = end;
-  taken = taken_at end given budget;
-  asked = tally.asked;
-  full = tally.full;
-  starved = tally.no_memory;
-}
 
 -- a connection that is served: by which caller, for which account, with which budget of bytes; the history at its end,
 -- and how many entries of that had been seen as it began

@@ -5,16 +5,15 @@ ghost use Rattle.sx_call.specs.Calls.{door_of};
 ghost use Rattle.sx_call.specs.declared.doors.Door.TheVariants.{Rest};
 ghost use Rattle.sx_book.specs.Passes.{KeepsSessions};
 ghost use Rattle.sx_rest_door.specs.Asking.{DrawsFresh, IsAnswered, IsOutcomeOf};
-ghost use Rattle.sx_rest_door.specs.Asking.{said_uncalled, tally_uncalled, tally_with_stop};
+ghost use Rattle.sx_rest_door.specs.Asking.{said_uncalled, tally_uncalled};
 ghost use Rattle.sx_rest_door.specs.Conversation.{ComesTo};
 
 use crate::judging::{Uncalled, judge};
-use crate::tally::Tally;
 use std::alloc::Global;
 use std::sync::Wait;
 use sx_answers::rest_replies_are_printed;
 use sx_base::Random;
-use sx_book::{Full, Office, Pass};
+use sx_book::{Office, Pass, Tally};
 use sx_call::{Call, Stop};
 use sx_http::Request;
 use sx_key::Account;
@@ -23,26 +22,6 @@ use sx_reply::{Answer, Said};
 
 /// How many values a random word has.
 const WORD: u128 = 18_446_744_073_709_551_616;
-
-/// Counts a call that was not appended.
-fn note(tally: &mut Tally, stop: Stop)
-    ensures { tally.new ≡ tally_with_stop tally.old stop }
-{
-    match stop {
-        Stop::NoMemory => tally.no_memory = true,
-        Stop::HistoryFull {
-            entries,
-            sessions,
-            limit,
-        } => {
-            tally.full = Some(Full {
-                entries,
-                sessions,
-                limit,
-            });
-        }
-    }
-}
 
 /// The random number of a call, of two words.
 fn draw<R: Random>(random: &mut R) -> u128
@@ -83,7 +62,7 @@ fn answer_call<W: Wait, R: Random>(
             said: Said::Core(receipt.reply),
         },
         Err(stop) => {
-            note(tally, stop);
+            tally.note(stop);
             unplaced(now, Said::Stop(stop))
         }
     }

@@ -6,8 +6,6 @@ mod closing;
 mod conn;
 mod hearing;
 mod judging;
-mod tally;
 
 pub use conn::serve_conn;
 pub use sx_memory::NoMemory;
-pub use tally::Tally;

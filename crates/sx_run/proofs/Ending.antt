@@ -19,7 +19,7 @@ use Rattle.sx_run.specs.declared.report.WorkReport.{WorkReport}
 use Rattle.sx_run.specs.declared.service.Unserved.{Unserved}
 use Rattle.sx_run.specs.declared.service.Unserved.TheVariants.{WriteFault, NoMemory, ListenFault}
 use Rattle.sx_run.specs.declared.words.ServeWords.{ServeWords}
-use Rattle.sx_smb_door.specs.Conversation.{HasText}
+use Rattle.sx_book.specs.Reports.{HasText}
 use Rattle.sx_run.specs.Crews.{Told, AllTwo, AreAllDismissed, AreEngaged, Failed, HasRun, IsNewPass, RunsAt, TakenBack, crew_report, is_faulted, worker_pairs}
 use Rattle.sx_run.specs.Serving.{AllWorked, HasFailed, IsAllMet, IsUnreadyBy, IsUnservedBy, Outside, Serves, Shift, port_lines, reports_of, status_of, workers_of}
 use Rattle.sx_run.specs.Visits.{HasNone, Post, Talks}

@@ -8,7 +8,7 @@ use Rattle.sx_call.specs.declared.entries.Noted.{Noted}
 use Rattle.sx_spec.specs.History.{IsHistory}
 use Rattle.sx_book.specs.History.{History}
 use Rattle.sx_book.specs.Passes.{PassView, caller_of, HasExactPlaces, OwnsAllNumbers, OwnsEachSeen}
-use Rattle.sx_smb_door.specs.Conversation.{HasText, HasPrefix}
+use Rattle.sx_book.specs.Reports.{HasPrefix, HasText}
 use Rattle.sx_run.specs.declared.crew.CrewReport.{CrewReport}
 use Rattle.sx_run.specs.declared.report.WorkReport.{WorkReport}
 use Rattle.sx_run.specs.declared.service.Unserved.{Unserved}

@@ -4,7 +4,7 @@ ghost use Rattle.std.specs.List.{AllByRecursion};
 ghost use Rattle.sx_base.specs.Sink.{Prints};
 ghost use Rattle.sx_spec.specs.History.{IsHistory};
 ghost use Rattle.sx_book.specs.Passes.{first_pass};
-ghost use Rattle.sx_smb_door.specs.Conversation.{HasText};
+ghost use Rattle.sx_book.specs.Reports.{HasText};
 ghost use Rattle.sx_run.specs.Crews.{AreAllDismissed, AreEngaged};
 ghost use Rattle.sx_run.specs.Doors.{rest_talks, smb_talks};
 ghost use Rattle.sx_run.specs.Serving.{AllWorked, HasFailed, IsAllMet, IsUnreadyBy, IsUnservedBy, Serves};

@@ -17,7 +17,8 @@ use Rattle.sx_book.proofs.Calls.{appended_asks, full_asks, starved_asks}
 use Rattle.sx_lines.specs.Answers.{has_line}
 use Rattle.sx_lines.specs.declared.answer.LineAnswer.{LineAnswer}
 use Rattle.sx_lines.specs.declared.answer.LineAnswer.TheVariants.{Core, Stop as Stopped}
-use Rattle.sx_smb_door.specs.Asking.{DoorState, IsAsked, tally_with_stop}
+use Rattle.sx_book.specs.Reports.{tally_with_stop}
+use Rattle.sx_smb_door.specs.Asking.{DoorState, IsAsked}
 use Rattle.sx_smb_door.specs.Conversation.{is_lock}
 
 -- ---- its reply has a line

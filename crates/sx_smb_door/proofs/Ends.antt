@@ -7,13 +7,15 @@ use Rattle.sx_base.proofs.Streams.{consumes_more, consumes_none, keeps_same}
 use Rattle.sx_book.specs.declared.report.ConnEnd.{ConnEnd}
 use Rattle.sx_book.specs.declared.report.ConnEnd.TheVariants as finish
 use Rattle.sx_smb_door.specs.Asking.{DoorState, EndsAs, IsAnswered, IsServed, SaysQuit}
-use Rattle.sx_smb_door.specs.Conversation.{AnsweredLine, Caller, Talk, answer_of, answers_to, line_bytes, quit_bytes, no_tally, HasText, HasPrefix, HasBegun, BreaksAtAnswer, HasWritten, IsEnd, EndsByQuit, KeepsCounts, ServesLines}
+use Rattle.sx_book.specs.Reports.{HasBegun, HasPrefix, HasText, KeepsCounts, no_tally}
+use Rattle.sx_smb_door.specs.Conversation.{AnsweredLine, Caller, Talk, answer_of, answers_to, line_bytes, quit_bytes, BreaksAtAnswer, HasWritten, IsEnd, EndsByQuit, ServesLines}
 use Rattle.sx_lines.specs.Answers.{answer_line}
 use Rattle.sx_lines.specs.declared.answer.LineAnswer.{LineAnswer}
 use Rattle.sx_lines.specs.declared.line.TheConstants.{LINE_LIMIT}
 use Rattle.sx_smb_door.specs.LineReaderView.{LineReaderView}
 use Rattle.sx_smb_door.specs.Lines.{with_line_feed, line_stream, GivesLine, IsOneLine}
-use Rattle.sx_smb_door.proofs.Turns.{Going, going_none, going_more, flat_more, text_none, text_more, text_begun, text_kept}
+use Rattle.sx_book.proofs.Texts.{text_begun, text_kept, text_more, text_none}
+use Rattle.sx_smb_door.proofs.Turns.{Going, going_none, going_more, flat_more}
 
 -- lines that were answered, with what was written for them
 abbrev pub Run : {C : Type 0} → (C → ℕ → C → Type 0) → Caller → Option (List ℕ) → Option (List ℕ) → DoorState C → DoorState C → ℕ → (List ℕ → Type 0) → (List ℕ → Type 0) → Type 0

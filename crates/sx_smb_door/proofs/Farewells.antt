@@ -7,8 +7,9 @@ use Rattle.sx_base.specs.Sides.{Sides}
 use Rattle.sx_book.specs.declared.report.ConnEnd.{ConnEnd}
 use Rattle.sx_book.specs.declared.report.ConnEnd.TheVariants as finish
 use Rattle.sx_smb_door.specs.Asking.{DoorState, EndsAs, IsFarewell, IsServed}
-use Rattle.sx_smb_door.specs.Conversation.{Caller, Talk, answers_to, HasText, HasPrefix, HasBegun, Breaks, HasWritten, IsEnd, EndsByQuit, KeepsCounts, TakesLines, ServesLines, taken_at}
-use Rattle.sx_smb_door.proofs.Turns.{text_more, text_begun}
+use Rattle.sx_book.specs.Reports.{HasBegun, HasText, KeepsCounts, taken_at}
+use Rattle.sx_smb_door.specs.Conversation.{Caller, Talk, answers_to, Breaks, HasWritten, IsEnd, EndsByQuit, TakesLines, ServesLines}
+use Rattle.sx_book.proofs.Texts.{text_begun, text_more}
 
 -- a talk of another end
 abbrev pub ending : Talk → ConnEnd → Talk

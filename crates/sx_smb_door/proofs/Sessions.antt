@@ -20,9 +20,11 @@ use Rattle.sx_book.proofs.Calls.{asks_join, appended_asks, full_asks, starved_as
 use Rattle.sx_lines.specs.Answers.{answer_line}
 use Rattle.sx_lines.specs.declared.answer.LineAnswer.TheVariants.{Core}
 use Rattle.sx_smb_door.specs.Asking.{DoorState, caller_in, IsServed}
-use Rattle.sx_smb_door.specs.Conversation.{Caller, Visit, LinkState, Bounds, Talk, ServesLines, IsUnstarted, Conversation, HasText, call_with, calls_of, caller_of_visit, session_calls, tally_after_all, no_tally, report_of, unstarted_report, end_of}
-use Rattle.sx_smb_door.specs.declared.tally.Tally.{Tally}
-use Rattle.sx_smb_door.proofs.Turns.{text_none, moments_join}
+use Rattle.sx_book.specs.Reports.{no_tally, report_of}
+use Rattle.sx_smb_door.specs.Conversation.{Caller, Visit, LinkState, Bounds, Talk, ServesLines, IsUnstarted, Conversation, call_with, calls_of, caller_of_visit, session_calls, tally_after_all, unstarted_report, end_of}
+use Rattle.sx_book.specs.declared.report.Tally.{Tally}
+use Rattle.sx_book.proofs.Texts.{text_none}
+use Rattle.sx_smb_door.proofs.Turns.{moments_join}
 
 -- entries of others behind what was seen
 pub others_grow : (who : ℕ) (seen found : List Noted) → GrowsByOthers who seen found → IsPrefix seen found

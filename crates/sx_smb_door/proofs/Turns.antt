@@ -10,18 +10,20 @@ use Rattle.sx_base.proofs.Streams.{consumes_more, consumes_none}
 use Rattle.sx_call.specs.declared.calls.Call.{Call}
 use Rattle.sx_call.specs.declared.refusals.Stop.TheVariants.{NoMemory}
 use Rattle.sx_turn.proofs.Lists.{each_snoc}
+use Rattle.sx_book.proofs.Texts.{came_after}
 use Rattle.sx_book.specs.OneHistory.{Came, appended, history_full, no_memory, Outcome, Asks, moments_of}
 use Rattle.sx_book.specs.Passes.{PassView, HoldsSession}
 use Rattle.sx_book.proofs.Calls.{asks_none, asks_join}
 use Rattle.sx_smb_door.specs.Asking.{DoorState, caller_in, IsAsked, IsAnswered}
-use Rattle.sx_smb_door.specs.Conversation.{LineOutcome, wrong_word, not_parsed, called, AnsweredLine, IsAnsweredLine, Caller, calls_in, calls_of, answer_of, no_tally, tally_with, tally_after, tally_after_all, line_bytes, HasText, HasPrefix, HasBegun}
+use Rattle.sx_book.specs.Reports.{no_tally}
+use Rattle.sx_smb_door.specs.Conversation.{LineOutcome, wrong_word, not_parsed, called, AnsweredLine, IsAnsweredLine, Caller, calls_in, calls_of, answer_of, tally_after, tally_after_all, line_bytes}
 use Rattle.sx_lines.specs.Lines.{line_of}
 use Rattle.sx_lines.specs.declared.answer.LineAnswer.{LineAnswer}
 use Rattle.sx_lines.specs.declared.answer.LineAnswer.TheVariants.{Syntax, Stop as Stopped}
 use Rattle.sx_lines.specs.declared.line.Line.TheVariants.{Ask}
 use Rattle.sx_lines.specs.declared.line.TheConstants.{LINE_LIMIT}
 use Rattle.sx_smb_door.specs.Lines.{with_line_feed, IsOneLine}
-use Rattle.sx_smb_door.specs.declared.tally.Tally.{Tally}
+use Rattle.sx_book.specs.declared.report.Tally.{Tally}
 
 pub tally_more : (w : Caller) (tally : Tally) (ts : List AnsweredLine) (t : AnsweredLine) → tally_after_all w tally (ts ++ t ∷ []) ≡ tally_after w (tally_after_all w tally ts) t.outcome
 tally_more w tally [] t = refl
@@ -79,23 +81,6 @@ going_more {C} ticks w s0 s1 s2 a b c k1 k2 line answer g one short taken count 
       told = subst (λ (ms : List ℕ). StepsThrough ticks a.clock ms c.clock) (sym moments) (steps_append ticks a.clock b.clock c.clock (moments_of (calls_of w g.turns)) (moments_of (calls_in w last.outcome)) g.told last.told);
     }
 
--- ---- what was written
--- nothing
-pub text_none : (wrote : List ℕ → Type 0) → HasText wrote wrote []
-text_none wrote m h = subst wrote (sym (append-nil m)) h
-
--- one text behind another
-pub text_more : (first second third : List ℕ → Type 0) (x y : List ℕ) → HasText first second x → HasText second third y → HasText first third (x ++ y)
-text_more first second third x y h k m w = subst third (append_assoc m x y) (k (m ++ x) (h m w))
-
--- a prefix of a text behind another
-pub text_begun : (first second third : List ℕ → Type 0) (x y : List ℕ) → HasText first second x → HasPrefix second third y → HasBegun first third x y
-text_begun first second third x y h k m w = k (m ++ x) (h m w)
-
--- what is told does not change where what was written does not
-pub text_kept : (first second third : List ℕ → Type 0) (x : List ℕ) → HasText first second x → ((m : List ℕ) → second m → third m) → HasText first third x
-text_kept first second third x h keep m w = keep (m ++ x) (h m w)
-
 -- ---- a call that was asked is a line that was answered
 pub asked_line : {C : Type 0} (ticks : C → ℕ → C → Type 0) (session : ℕ) (line : List ℕ) (call : Call) (old new : DoorState C) (answer : LineAnswer)
     → line_of line ≡ Ok (Ask call) → IsAsked ticks session call old new answer → IsAnswered ticks (caller_in old.pass session) line old new answer
@@ -135,11 +120,6 @@ unparsed_line ticks w line s held = record {
   printed = refl;
   held = held;
 }
-
-came_after : (limit : ℕ) (t : Tally) (c : Came) → (tally_with limit t c).asked ≡ t.asked
-came_after limit t (appended place reply) = refl
-came_after limit t (history_full n s) = refl
-came_after limit t no_memory = refl
 
 -- an outcome counts at most one call
 pub asked_after : (w : Caller) (t : Tally) (o : LineOutcome) → (tally_after w t o).asked ≤ t.asked + 1

@@ -14,9 +14,9 @@ use Rattle.sx_book.specs.Passes.{PassView, HoldsSession}
 use Rattle.sx_book.specs.declared.report.ConnEnd.{ConnEnd}
 use Rattle.sx_book.specs.declared.report.ConnEnd.TheVariants as finish
 use Rattle.sx_smb_door.specs.Conversation.{LineOutcome, Caller, Talk, Spells, calls_in, calls_of, call_with}
-use Rattle.sx_smb_door.specs.Conversation.{answer_to, answer_of, tally_with, tally_after, tally_after_all, no_tally}
-use Rattle.sx_smb_door.specs.Conversation.{HasText, HasPrefix}
-use Rattle.sx_smb_door.specs.declared.tally.Tally.{Tally}
+use Rattle.sx_book.specs.Reports.{HasPrefix, HasText, no_tally, tally_with}
+use Rattle.sx_smb_door.specs.Conversation.{answer_to, answer_of, tally_after, tally_after_all}
+use Rattle.sx_book.specs.declared.report.Tally.{Tally}
 
 -- a session's pass, its clock and its counts, before or after a call
 pub record DoorState (C : Type 0) : Type 0 where
@@ -27,13 +27,6 @@ pub record DoorState (C : Type 0) : Type 0 where
 -- the caller of a session through this pass
 abbrev pub caller_in : PassView → ℕ → Caller
 caller_in p session = record { who = p.number; session = session; limit = p.limit }
-
--- the counts after a call that was not appended
-abbrev pub tally_with_stop : Tally → Stop → Tally
-tally_with_stop t NoMemory = record t { no_memory = true }
-tally_with_stop t (HistoryFull entries sessions limit) = record t {
-  full = Some (record { entries = entries; sessions = sessions; limit = limit });
-}
 
 -- a call was asked at a moment of the clock: what it came to, what that left of pass and counts, and its answer, which
 -- can be printed; the pass still holds the session

@@ -15,6 +15,7 @@ use Rattle.sx_call.specs.declared.replies.SmbReply.TheVariants.{Started}
 use Rattle.sx_call.specs.declared.refusals.Stop.{Stop as Stopped}
 use Rattle.sx_call.specs.declared.refusals.Stop.TheVariants as stop
 use Rattle.sx_book.specs.History.{History}
+use Rattle.sx_book.specs.Reports.{HasBegun, HasText, KeepsCounts, no_tally, report_of, tally_with}
 use Rattle.sx_book.specs.OneHistory.{Came, appended, history_full, no_memory, Outcome, AreCallsIn, moments_of}
 use Rattle.sx_book.specs.Passes.{start_of}
 use Rattle.sx_book.specs.declared.report.Full.{Full}
@@ -28,7 +29,7 @@ use Rattle.sx_lines.specs.Answers.{answer_line}
 use Rattle.sx_lines.specs.declared.answer.LineAnswer.{LineAnswer}
 use Rattle.sx_lines.specs.declared.answer.LineAnswer.TheVariants.{Core, Syntax, Long, Stop}
 use Rattle.sx_smb_door.specs.Lines.{with_line_feed, IsOneLine, IsCutLine, BeginsUnended}
-use Rattle.sx_smb_door.specs.declared.tally.Tally.{Tally}
+use Rattle.sx_book.specs.declared.report.Tally.{Tally}
 
 -- what came of a line: a word at this place isn't as it must be; no memory was left to parse it; or its call was asked
 -- at a moment of the clock, and came to this
@@ -97,18 +98,6 @@ abbrev pub answer_of : Caller → LineOutcome → LineAnswer
 answer_of w (wrong_word at) = Syntax at
 answer_of w not_parsed = Stop stop.NoMemory
 answer_of w (called call moment came) = answer_to w.limit call came
-
--- nothing was asked yet
-abbrev pub no_tally : Tally
-no_tally = record { asked = 0; full = None; no_memory = false }
-
--- what a report counts, after a call: the last time that the history was full, and whether memory ran out
-abbrev pub tally_with : ℕ → Tally → Came → Tally
-tally_with limit t (appended place reply) = t
-tally_with limit t (history_full entries sessions) = record t {
-  full = Some (record { entries = entries; sessions = sessions; limit = limit });
-}
-tally_with limit t no_memory = record t { no_memory = true }
 
 -- what a report counts, after a line
 abbrev pub tally_after : Caller → Tally → LineOutcome → Tally
@@ -184,26 +173,6 @@ EndsByQuit finish.WriteFault (Some line) = IsQuit line
 EndsByQuit end None = Unit {0}
 EndsByQuit end (Some line) = ⊥
 
--- the counts of failed reads and puts are as they were, but for that of the failure by which the session ended
-abbrev pub KeepsCounts : ConnEnd → Sides → Sides → Type 0
-KeepsCounts finish.ReadFault old new = new.writes ≡ old.writes
-KeepsCounts finish.WriteFault old new = new.reads ≡ old.reads
-KeepsCounts end old new = (new.reads ≡ old.reads) × (new.writes ≡ old.writes)
-
--- the text was written behind what was written before
-abbrev pub HasText : (List ℕ → Type 0) → (List ℕ → Type 0) → List ℕ → Type 0
-HasText wrote wrote' text = (before : List ℕ) → wrote before → wrote' (before ++ text)
-
--- a prefix of the text was written behind what was written before
-abbrev pub HasPrefix : (List ℕ → Type 0) → (List ℕ → Type 0) → List ℕ → Type 0
-HasPrefix wrote wrote' text =
-    (before : List ℕ) → wrote before → (front : List ℕ) × IsPrefix front text × wrote' (before ++ front)
-
--- the text was written, and behind it a prefix of the last one
-abbrev pub HasBegun : (List ℕ → Type 0) → (List ℕ → Type 0) → List ℕ → List ℕ → Type 0
-HasBegun wrote wrote' text last =
-    (before : List ℕ) → wrote before → (front : List ℕ) × IsPrefix front last × wrote' ((before ++ text) ++ front)
-
 -- a write failed at the answer to the last line: those before it were written, and a prefix of it
 pub record BreaksAtAnswer (w : Caller) (turns : List AnsweredLine) (wrote wrote' : List ℕ → Type 0) : Type 0 where
   pub answered : List AnsweredLine
@@ -242,28 +211,6 @@ pub record ServesLines (w : Caller) (budget : ℕ) (last : List ℕ) (t : Talk) 
   pub end : IsEnd t.end budget t old new
   pub quits : EndsByQuit t.end t.quit
   pub counts : KeepsCounts t.end old new
-
--- the bytes that are reported as taken: those of the lines, with those of a line that was cut, and the budget where
--- it is spent
-abbrev pub taken_at : ConnEnd → ℕ → ℕ → ℕ
-taken_at finish.Ended taken budget = taken
-taken_at (finish.Closed at) taken budget = taken
-taken_at (finish.Cut left) taken budget = taken + left
-taken_at finish.Spent taken budget = budget
-taken_at finish.ReadFault taken budget = taken
-taken_at finish.WriteFault taken budget = taken
-taken_at (finish.Full full) taken budget = taken
-taken_at finish.NoMemory taken budget = taken
-
--- the report of a session whose lines ended so
-abbrev pub report_of : ConnEnd → ℕ → ℕ → Tally → ConnReport
-report_of end taken budget tally = record {
-  end = end;
-  taken = taken_at end taken budget;
-  asked = tally.asked;
-  full = tally.full;
-  starved = tally.no_memory;
-}
 
 -- the report of a session that was not started
 abbrev pub unstarted_report : ConnEnd → ConnReport

@@ -3,9 +3,7 @@
 
 mod lines;
 mod session;
-mod tally;
 
 pub use lines::{LineReader, NextLine};
 pub use session::serve_session;
 pub use sx_memory::NoMemory;
-pub use tally::Tally;

@@ -9,39 +9,19 @@ ghost use Rattle.sx_book.specs.Passes.{HasOwnPlaces, HoldsSession, KeepsSessions
 ghost use Rattle.sx_lines.specs.Answers.{answer_line, is_printed};
 ghost use Rattle.sx_lines.specs.declared.answer.LineAnswer.TheVariants.{Core};
 ghost use Rattle.sx_smb_door.specs.Asking.{caller_in, EndsAs, IsAsked, IsAnswered, IsFarewell, IsServed};
-ghost use Rattle.sx_smb_door.specs.Asking.{SaysQuit, tally_with_stop};
-ghost use Rattle.sx_smb_door.specs.Conversation.{Conversation, ServesLines, Talk, is_lock, no_tally, report_of};
-ghost use Rattle.sx_smb_door.specs.Conversation.{end_of, taken_at, unstarted_report};
+ghost use Rattle.sx_book.specs.Reports.{no_tally, report_of, taken_at};
+ghost use Rattle.sx_smb_door.specs.Asking.{SaysQuit};
+ghost use Rattle.sx_smb_door.specs.Conversation.{Conversation, ServesLines, Talk, is_lock};
+ghost use Rattle.sx_smb_door.specs.Conversation.{end_of, unstarted_report};
 
 use crate::lines::{LineReader, NextLine};
-use crate::tally::Tally;
 use std::alloc::Global;
 use std::sync::Wait;
 use sx_answers::session_replies_are_printed;
 use sx_base::{Clock, Link, Sink};
-use sx_book::{ConnEnd, ConnReport, Full, Office, Pass, Receipt, Session};
+use sx_book::{ConnEnd, ConnReport, Full, Office, Pass, Receipt, Session, Tally};
 use sx_call::{Call, Stop};
 use sx_lines::{Line, LineAnswer, LineFault, call_of_line, print_line};
-
-/// Counts a call that was not appended.
-fn note(tally: &mut Tally, stop: Stop)
-    ensures { tally.new ≡ tally_with_stop tally.old stop }
-{
-    match stop {
-        Stop::NoMemory => tally.no_memory = true,
-        Stop::HistoryFull {
-            entries,
-            sessions,
-            limit,
-        } => {
-            tally.full = Some(Full {
-                entries,
-                sessions,
-                limit,
-            });
-        }
-    }
-}
 
 /// Whether a call locks bytes.
 fn is_lock(call: &Call) -> bool
@@ -81,7 +61,7 @@ fn answer_call<R: Wait, C: Clock>(
             locking,
         },
         Err(stop) => {
-            note(tally, stop);
+            tally.note(stop);
             LineAnswer::Stop(stop)
         }
     }

@@ -5,6 +5,7 @@ pub mod Checked
 pub mod Leases
 pub mod Opens
 pub mod Exact
+pub mod Views
 pub mod Live
 pub mod Histories
 pub mod Closing

@@ -17,5 +17,5 @@ returns-in-Ok-clause-asked g c =
 pub returns-in-Err-clause-asked : goal.returns-in-Err-clause-asked
 returns-in-Err-clause-asked g c =
     stopped_call g.R.Random.draws c.args.call (record { pass = c.args.pass.now; random = c.args.random.now; tally = c.args.tally.now })
-    (record { pass = c.ask.new.pass; random = c.draw-fresh.new.random; tally = c.note.new.tally }) c.args.now c.draw-fresh.result
+    (record { pass = c.ask.new.pass; random = c.draw-fresh.new.random; tally = c.note.new.self }) c.args.now c.draw-fresh.result
     c.unplaced.result c.in-Err.stop c.draw-fresh.ensures c.in-Err.ensures.stop c.note.ensures c.unplaced.ensures

@@ -4,7 +4,7 @@ use Rattle.std.proofs.KnownBytes.{prepend_known-nil}
 use Rattle.sx_base.specs.Sides.{Sides}
 use Rattle.sx_http.specs.RequestStream.{stream}
 use Rattle.sx_book.specs.Passes.{PassView}
-use Rattle.sx_rest_door.specs.declared.tally.Tally.{Tally}
+use Rattle.sx_book.specs.declared.report.Tally.{Tally}
 use Rattle.sx_rest_door.proofs.Replying.{turn_state}
 use Rattle.sx_rest_door.proofs.Turns.{request_long, asked_after}
 use Rattle.sx_rest_door.proofs.Ends.{run_none, run_turn, run_ended}

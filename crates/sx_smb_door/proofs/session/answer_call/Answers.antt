@@ -26,5 +26,5 @@ returns-in-Ok-clause-asked g c =
 pub returns-in-Err-clause-asked : goal.returns-in-Err-clause-asked
 returns-in-Err-clause-asked g c =
     stopped_call g.C.Clock.ticks c.args.session.now c.args.call (record { pass = c.args.pass.now; clock = c.args.clock.now; tally = c.args.tally.now })
-    (record { pass = c.ask.new.pass; clock = c.now-now.new.self; tally = c.note.new.tally })
+    (record { pass = c.ask.new.pass; clock = c.now-now.new.self; tally = c.note.new.self })
     c.now-now.result c.in-Err.stop (c.in-Err.ensures.held c.args.session.now c.requires.held) c.now-now.ensures.step c.in-Err.ensures.stop c.note.ensures

@@ -11,8 +11,9 @@ use Rattle.sx_smb_door.specs.Conversation.{Caller, answers_to}
 use Rattle.sx_smb_door.specs.Lines.{line_stream, with_line_feed}
 use Rattle.sx_lines.specs.Answers.{answer_line}
 use Rattle.sx_lines.specs.declared.answer.LineAnswer.TheVariants.{Long}
-use Rattle.sx_smb_door.specs.declared.tally.Tally.{Tally}
-use Rattle.sx_smb_door.proofs.Turns.{text_kept, text_more, text_begun, asked_after, same_caller}
+use Rattle.sx_book.specs.declared.report.Tally.{Tally}
+use Rattle.sx_book.proofs.Texts.{text_begun, text_kept, text_more}
+use Rattle.sx_smb_door.proofs.Turns.{asked_after, same_caller}
 use Rattle.sx_smb_door.proofs.Ends.{run_none, run_more, run_breaks, served_by, stopped_by, quit_by}
 use Rattle.sx_smb_door.proofs.session.serve_lines.Goals as goal
 

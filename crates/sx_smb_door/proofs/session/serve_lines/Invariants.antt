@@ -1,7 +1,8 @@
 use Rattle.std.proofs.Common.{◌-◌, ◌≤◌, ◌≡◌}
 use Rattle.sx_book.specs.Passes.{HoldsSession, KeepsSessions}
 use Rattle.sx_smb_door.specs.Asking.{caller_in}
-use Rattle.sx_smb_door.specs.Conversation.{answers_to, HasText}
+use Rattle.sx_book.specs.Reports.{HasText}
+use Rattle.sx_smb_door.specs.Conversation.{answers_to}
 use Rattle.sx_smb_door.specs.Lines.{line_stream}
 use Rattle.sx_smb_door.proofs.Turns.{Going}
 use Rattle.sx_smb_door.proofs.session.serve_lines.Given as goal

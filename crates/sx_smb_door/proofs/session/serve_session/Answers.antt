@@ -6,7 +6,8 @@ use Rattle.sx_call.specs.declared.calls.Call.TheVariants.{End}
 use Rattle.sx_lines.specs.Answers.{answer_line}
 use Rattle.sx_lines.specs.declared.answer.LineAnswer.TheVariants.{Core}
 use Rattle.sx_smb_door.specs.Asking.{DoorState, caller_in}
-use Rattle.sx_smb_door.specs.Conversation.{Conversation, LinkState, ServesLines, no_tally, report_of, taken_at}
+use Rattle.sx_book.specs.Reports.{no_tally, report_of, taken_at}
+use Rattle.sx_smb_door.specs.Conversation.{Conversation, LinkState, ServesLines}
 use Rattle.sx_smb_door.specs.LineReaderView.{LineReaderView}
 use Rattle.sx_smb_door.proofs.Asks.{receipt_line}
 use Rattle.sx_smb_door.proofs.Farewells.{ending, parted, served_again, closed_fits}
