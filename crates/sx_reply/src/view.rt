@@ -10,8 +10,30 @@ use sx_extent::View;
 /// How many bytes of a file are put at once at most.
 const PIECE: usize = 65_536;
 
+/// How many bytes of a file are put at once where it has no more, so that no large piece is filled for it.
+const SMALL_PIECE: usize = 4_096;
+
 /// Prints the bytes of a view, piece by piece.
 pub(crate) fn print_view<K: Sink>(sink: &mut K, view: &View) -> Result<(), Failed>
+    ensures { Prints K.wrote K.write_count K.puts sink.old sink.new view.now result }
+{
+    if view.length() <= SMALL_PIECE as u64 {
+        print_small(sink, view)
+    } else {
+        print_large(sink, view)
+    }
+}
+
+/// Prints the bytes of a view in small pieces.
+fn print_small<K: Sink>(sink: &mut K, view: &View) -> Result<(), Failed>
+    ensures { Prints K.wrote K.write_count K.puts sink.old sink.new view.now result }
+{
+    let mut piece = [0u8; SMALL_PIECE];
+    print_by(sink, view, &mut piece)
+}
+
+/// Prints the bytes of a view in large pieces.
+fn print_large<K: Sink>(sink: &mut K, view: &View) -> Result<(), Failed>
     ensures { Prints K.wrote K.write_count K.puts sink.old sink.new view.now result }
 {
     let mut piece = [0u8; PIECE];
