@@ -377,6 +377,13 @@ def lacking(walk):
     walk.answers("a snapshot to compare with is passed over: all ranges are told", lambda: file.get_ranges_diff(moment),
                  ([{"start": 0, "end": 3}], []), lambda found: found)
     walk.answers("a condition is passed over", lambda: file.get_file_properties(headers={"If-Match": '"0x1"'}))
+    walk.answers("a protocol, a change time and a time limit are passed over", lambda: [account.create_share(
+        "data-3", protocols="SMB", timeout=5), share.get_file_client("h").create_file(1, file_change_time=MOMENT)])
+    zoned = datetime.datetime(2024, 2, 29, 12, 30, 15, 250000, tzinfo=datetime.timezone.utc)
+    whole = datetime.datetime(2024, 2, 29, 12, 30, 15)
+    for moment in [zoned, whole]:
+        walk.refused(f"the moment {moment}", lambda: share.get_file_client("i").create_file(
+            1, file_creation_time=moment), *no_header)
     walk.answers("a tier is passed over", lambda: share.set_share_properties(access_tier="Hot", quota=7))
     walk.refused("a tier alone", lambda: share.set_share_properties(access_tier="Hot"), 400, "MissingRequiredHeader")
 
