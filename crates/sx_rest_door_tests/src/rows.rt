@@ -1,12 +1,9 @@
-//! Connections: what they are given, and what comes of them.
+//! Connections with calls: what they are given, and what comes of them.
 
 use sx_book::{ConnEnd, Full};
 
-/// No call fails.
-const NONE: u64 = 1_000_000;
-
 /// More bytes than any connection here has.
-const BUDGET: u64 = 1_099_511_627_776;
+pub const BUDGET: u64 = 1_099_511_627_776;
 
 /// A connection to an office without shares, at 2022-01-01T00:00:00Z, signed for the account `acct` under the key
 /// `key`: what it is given, and what comes of it.
@@ -16,9 +13,6 @@ pub struct Row {
     pub input: &'static str,
     /// How many bytes a read gives.
     pub chunk: usize,
-    /// Which read, and which put, fails.
-    pub read: u64,
-    pub put: u64,
     pub out: &'static str,
     pub end: ConnEnd,
     pub taken: u64,
@@ -28,7 +22,7 @@ pub struct Row {
 }
 
 /// The connections.
-pub const ROWS: [Row; 17] = [
+pub const ROWS: [Row; 10] = [
     // A file is made, written and read, by requests one behind another.
     Row {
         limit: 10,
@@ -47,8 +41,6 @@ pub const ROWS: [Row; 17] = [
              -02\r\nAuthorization: SharedKey acct:AMjhWUQzLFnHM6YkesIotWae2N/N3HbGk/zPw9xFPqg=\r\n\
              \r\n",
         chunk: 4_096,
-        read: NONE,
-        put: NONE,
         out: "HTTP/1.1 201 Created\r\nx-ms-request-id: 00000000-0000-0000-0000-000000000001\r\nx-ms-\
              version: 2020-10-02\r\nDate: Sat, 01 Jan 2022 00:00:00 GMT\r\nLast-Modified: Sat, 01 J\
              an 2022 00:00:00 GMT\r\nETag: \"0x0000000000000001\"\r\nContent-Length: 0\r\n\r\nHTTP/\
@@ -95,8 +87,6 @@ pub const ROWS: [Row; 17] = [
              2022 00:00:00 GMT\r\nx-ms-version: 2020-10-02\r\nAuthorization: SharedKey acct:AMjhWUQ\
              zLFnHM6YkesIotWae2N/N3HbGk/zPw9xFPqg=\r\n\r\n",
         chunk: 4_096,
-        read: NONE,
-        put: NONE,
         out: "HTTP/1.1 201 Created\r\nx-ms-request-id: 00000000-0000-0000-0000-000000000001\r\nx-ms-\
              version: 2020-10-02\r\nDate: Sat, 01 Jan 2022 00:00:00 GMT\r\nLast-Modified: Sat, 01 J\
              an 2022 00:00:00 GMT\r\nETag: \"0x0000000000000001\"\r\nContent-Length: 0\r\n\r\nHTTP/\
@@ -133,8 +123,6 @@ pub const ROWS: [Row; 17] = [
              -version: 2020-10-02\r\nAuthorization: SharedKey acct:AMjhWUQzLFnHM6YkesIotWae2N/N3HbG\
              k/zPw9xFPqg=\r\n\r\n",
         chunk: 4_096,
-        read: NONE,
-        put: NONE,
         out: "HTTP/1.1 200 OK\r\nx-ms-request-id: 00000000-0000-0000-0000-000000000001\r\nx-ms-versi\
              on: 2020-10-02\r\nDate: Sat, 01 Jan 2022 00:00:00 GMT\r\nContent-Type: application/xml\
              \r\nContent-Length: 184\r\nConnection: close\r\n\r\n<?xml version=\"1.0\" encoding=\"u\
@@ -155,8 +143,6 @@ pub const ROWS: [Row; 17] = [
              0:00 GMT\r\nx-ms-version: 2020-10-02\r\nContent-Length: 0\r\nAuthorization: SharedKey \
              acct:Hm3iDpk0XpE8Qz1X1SM2zDr3qhyy6hF8k+ll4QtJa5I=\r\n\r\n",
         chunk: 4_096,
-        read: NONE,
-        put: NONE,
         out: "HTTP/1.1 403 Forbidden\r\nx-ms-request-id: 00000000-0000-0000-0000-000000000000\r\nx-m\
              s-version: 2020-10-02\r\nDate: Sat, 01 Jan 2022 00:00:00 GMT\r\nx-ms-error-code: Authe\
              nticationFailed\r\nContent-Type: application/xml\r\nContent-Length: 119\r\n\r\n<?xml v\
@@ -171,66 +157,6 @@ pub const ROWS: [Row; 17] = [
         full: None,
         entries: 1,
     },
-    // The same, for the head alone.
-    Row {
-        limit: 10,
-        budget: BUDGET,
-        input: "HEAD /data/a.txt HTTP/1.1\r\nx-ms-date: Sat, 01 Jan 2022 00:00:00 GMT\r\nx-ms-version: \
-             2020-10-02\r\n\r\n",
-        chunk: 4_096,
-        read: NONE,
-        put: NONE,
-        out: "HTTP/1.1 403 Forbidden\r\nx-ms-request-id: 00000000-0000-0000-0000-000000000000\r\nx-m\
-             s-version: 2020-10-02\r\nDate: Sat, 01 Jan 2022 00:00:00 GMT\r\nx-ms-error-code: Authe\
-             nticationFailed\r\nContent-Type: application/xml\r\nContent-Length: 0\r\n\r\n",
-        end: ConnEnd::Ended,
-        taken: 97,
-        asked: 0,
-        full: None,
-        entries: 0,
-    },
-    // A signature under another key.
-    Row {
-        limit: 10,
-        budget: BUDGET,
-        input: "GET /data/a.txt HTTP/1.1\r\nx-ms-date: Sat, 01 Jan 2022 00:00:00 GMT\r\nx-ms-version: \
-             2020-10-02\r\nAuthorization: SharedKey acct:pn5FOvCfxc8HsmrbpEsX07XcATghbwdUj+UbwjvVfs\
-             c=\r\n\r\n",
-        chunk: 4_096,
-        read: NONE,
-        put: NONE,
-        out: "HTTP/1.1 403 Forbidden\r\nx-ms-request-id: 00000000-0000-0000-0000-000000000000\r\nx-m\
-             s-version: 2020-10-02\r\nDate: Sat, 01 Jan 2022 00:00:00 GMT\r\nx-ms-error-code: Authe\
-             nticationFailed\r\nContent-Type: application/xml\r\nContent-Length: 117\r\n\r\n<?xml v\
-             ersion=\"1.0\" encoding=\"utf-8\"?><Error><Code>AuthenticationFailed</Code><Message>au\
-             th differs</Message></Error>",
-        end: ConnEnd::Ended,
-        taken: 172,
-        asked: 0,
-        full: None,
-        entries: 0,
-    },
-    // A request that is no call.
-    Row {
-        limit: 10,
-        budget: BUDGET,
-        input: "POST /data/a.txt HTTP/1.1\r\nx-ms-date: Sat, 01 Jan 2022 00:00:00 GMT\r\nx-ms-version: \
-             2020-10-02\r\nAuthorization: SharedKey acct:4BXHezJWrR+wvf9jcCm5HkHRN3+7fDO7QCjaJLbhEk\
-             w=\r\n\r\n",
-        chunk: 4_096,
-        read: NONE,
-        put: NONE,
-        out: "HTTP/1.1 405 Method Not Allowed\r\nx-ms-request-id: 00000000-0000-0000-0000-0000000000\
-             00\r\nx-ms-version: 2020-10-02\r\nDate: Sat, 01 Jan 2022 00:00:00 GMT\r\nx-ms-error-co\
-             de: UnsupportedHttpVerb\r\nContent-Type: application/xml\r\nContent-Length: 108\r\n\r\
-             \n<?xml version=\"1.0\" encoding=\"utf-8\"?><Error><Code>UnsupportedHttpVerb</Code><Me\
-             ssage>verb</Message></Error>",
-        end: ConnEnd::Ended,
-        taken: 173,
-        asked: 0,
-        full: None,
-        entries: 0,
-    },
     // No share of that name.
     Row {
         limit: 10,
@@ -239,8 +165,6 @@ pub const ROWS: [Row; 17] = [
              2020-10-02\r\nAuthorization: SharedKey acct:AMjhWUQzLFnHM6YkesIotWae2N/N3HbGk/zPw9xFPq\
              g=\r\n\r\n",
         chunk: 4_096,
-        read: NONE,
-        put: NONE,
         out: "HTTP/1.1 404 Not Found\r\nx-ms-request-id: 00000000-0000-0000-0000-000000000001\r\nx-m\
              s-version: 2020-10-02\r\nDate: Sat, 01 Jan 2022 00:00:00 GMT\r\nx-ms-error-code: Share\
              NotFound\r\nContent-Type: application/xml\r\nContent-Length: 106\r\n\r\n<?xml version=\
@@ -260,8 +184,6 @@ pub const ROWS: [Row; 17] = [
              ersion: 2020-10-02\r\nContent-Length: 0\r\nAuthorization: SharedKey acct:Hm3iDpk0XpE8Q\
              z1X1SM2zDr3qhyy6hF8k+ll4QtJa5I=\r\n\r\nGET / HTTP/1.1\r\nA b: c\r\n\r\n",
         chunk: 4_096,
-        read: NONE,
-        put: NONE,
         out: "HTTP/1.1 201 Created\r\nx-ms-request-id: 00000000-0000-0000-0000-000000000001\r\nx-ms-\
              version: 2020-10-02\r\nDate: Sat, 01 Jan 2022 00:00:00 GMT\r\nLast-Modified: Sat, 01 J\
              an 2022 00:00:00 GMT\r\nETag: \"0x0000000000000001\"\r\nContent-Length: 0\r\n\r\nHTTP/\
@@ -276,63 +198,6 @@ pub const ROWS: [Row; 17] = [
         full: None,
         entries: 1,
     },
-    // A request without a length.
-    Row {
-        limit: 10,
-        budget: BUDGET,
-        input: "PUT /data?restype=share HTTP/1.1\r\nHost: a\r\n\r\n",
-        chunk: 4_096,
-        read: NONE,
-        put: NONE,
-        out: "HTTP/1.1 411 Length Required\r\nx-ms-request-id: 00000000-0000-0000-0000-000000000000\
-             \r\nx-ms-version: 2020-10-02\r\nDate: Sat, 01 Jan 2022 00:00:00 GMT\r\nx-ms-error-code\
-             : MissingContentLengthHeader\r\nContent-Type: application/xml\r\nContent-Length: 117\r\
-             \nConnection: close\r\n\r\n<?xml version=\"1.0\" encoding=\"utf-8\"?><Error><Code>Miss\
-             ingContentLengthHeader</Code><Message>length</Message></Error>",
-        end: ConnEnd::Closed { at: Some(0) },
-        taken: 0,
-        asked: 0,
-        full: None,
-        entries: 0,
-    },
-    // A body that is too long.
-    Row {
-        limit: 10,
-        budget: BUDGET,
-        input: "PUT /data/a.txt?comp=range HTTP/1.1\r\nContent-Length: 4194305\r\n\r\n",
-        chunk: 4_096,
-        read: NONE,
-        put: NONE,
-        out: "HTTP/1.1 413 Payload Too Large\r\nx-ms-request-id: 00000000-0000-0000-0000-00000000000\
-             0\r\nx-ms-version: 2020-10-02\r\nDate: Sat, 01 Jan 2022 00:00:00 GMT\r\nx-ms-error-cod\
-             e: RequestBodyTooLarge\r\nContent-Type: application/xml\r\nContent-Length: 116\r\nConn\
-             ection: close\r\n\r\n<?xml version=\"1.0\" encoding=\"utf-8\"?><Error><Code>RequestBod\
-             yTooLarge</Code><Message>body 4194305</Message></Error>",
-        end: ConnEnd::Closed { at: Some(0) },
-        taken: 0,
-        asked: 0,
-        full: None,
-        entries: 0,
-    },
-    // A length that is no number.
-    Row {
-        limit: 10,
-        budget: BUDGET,
-        input: "GET / HTTP/1.1\r\nContent-Length: 4x\r\n\r\n",
-        chunk: 4_096,
-        read: NONE,
-        put: NONE,
-        out: "HTTP/1.1 400 Bad Request\r\nx-ms-request-id: 00000000-0000-0000-0000-000000000000\r\nx\
-             -ms-version: 2020-10-02\r\nDate: Sat, 01 Jan 2022 00:00:00 GMT\r\nx-ms-error-code: Inv\
-             alidHeaderValue\r\nContent-Type: application/xml\r\nContent-Length: 124\r\nConnection: \
-             close\r\n\r\n<?xml version=\"1.0\" encoding=\"utf-8\"?><Error><Code>InvalidHeaderValue\
-             </Code><Message>header content-length</Message></Error>",
-        end: ConnEnd::Closed { at: Some(0) },
-        taken: 0,
-        asked: 0,
-        full: None,
-        entries: 0,
-    },
     // A request without its last byte.
     Row {
         limit: 10,
@@ -343,8 +208,6 @@ pub const ROWS: [Row; 17] = [
              Jan 2022 00:00:00 GMT\r\nx-ms-version: 2020-10-02\r\nAuthorization: SharedKey acct:AMj\
              hWUQzLFnHM6YkesIotWae2N/N3HbGk/zPw9xFPqg=\r\n\r",
         chunk: 4_096,
-        read: NONE,
-        put: NONE,
         out: "HTTP/1.1 201 Created\r\nx-ms-request-id: 00000000-0000-0000-0000-000000000001\r\nx-ms-\
              version: 2020-10-02\r\nDate: Sat, 01 Jan 2022 00:00:00 GMT\r\nLast-Modified: Sat, 01 J\
              an 2022 00:00:00 GMT\r\nETag: \"0x0000000000000001\"\r\nContent-Length: 0\r\n\r\n",
@@ -364,8 +227,6 @@ pub const ROWS: [Row; 17] = [
              Jan 2022 00:00:00 GMT\r\nx-ms-version: 2020-10-02\r\nAuthorization: SharedKey acct:AMj\
              hWUQzLFnHM6YkesIotWae2N/N3HbGk/zPw9xFPqg=\r\n\r\n",
         chunk: 4_096,
-        read: NONE,
-        put: NONE,
         out: "HTTP/1.1 201 Created\r\nx-ms-request-id: 00000000-0000-0000-0000-000000000001\r\nx-ms-\
              version: 2020-10-02\r\nDate: Sat, 01 Jan 2022 00:00:00 GMT\r\nLast-Modified: Sat, 01 J\
              an 2022 00:00:00 GMT\r\nETag: \"0x0000000000000001\"\r\nContent-Length: 0\r\n\r\n",
@@ -374,46 +235,6 @@ pub const ROWS: [Row; 17] = [
         asked: 1,
         full: None,
         entries: 1,
-    },
-    // A first read that fails.
-    Row {
-        limit: 10,
-        budget: BUDGET,
-        input: "PUT /data?restype=share HTTP/1.1\r\nx-ms-date: Sat, 01 Jan 2022 00:00:00 GMT\r\nx-ms-v\
-             ersion: 2020-10-02\r\nContent-Length: 0\r\nAuthorization: SharedKey acct:Hm3iDpk0XpE8Q\
-             z1X1SM2zDr3qhyy6hF8k+ll4QtJa5I=\r\n\r\n",
-        chunk: 4_096,
-        read: 0,
-        put: NONE,
-        out: "",
-        end: ConnEnd::ReadFault,
-        taken: 0,
-        asked: 0,
-        full: None,
-        entries: 0,
-    },
-    // A put that fails: its call stands.
-    Row {
-        limit: 10,
-        budget: BUDGET,
-        input: "PUT /data?restype=share HTTP/1.1\r\nx-ms-date: Sat, 01 Jan 2022 00:00:00 GMT\r\nx-ms-v\
-             ersion: 2020-10-02\r\nContent-Length: 0\r\nAuthorization: SharedKey acct:Hm3iDpk0XpE8Q\
-             z1X1SM2zDr3qhyy6hF8k+ll4QtJa5I=\r\n\r\nPUT /data/a.txt HTTP/1.1\r\nx-ms-date: Sat, 01 \
-             Jan 2022 00:00:00 GMT\r\nx-ms-version: 2020-10-02\r\nContent-Length: 0\r\nx-ms-type: f\
-             ile\r\nx-ms-content-length: 4\r\nx-ms-file-permission: inherit\r\nx-ms-file-attributes\
-             : none\r\nx-ms-file-creation-time: now\r\nx-ms-file-last-write-time: now\r\nAuthorizat\
-             ion: SharedKey acct:vImSkc2+95A+6u0slTxIpTv4RehAHrjrN9pzcEi6Kpc=\r\n\r\n",
-        chunk: 4_096,
-        read: NONE,
-        put: 1,
-        out: "HTTP/1.1 201 Created\r\nx-ms-request-id: 00000000-0000-0000-0000-000000000001\r\nx-ms-\
-             version: 2020-10-02\r\nDate: Sat, 01 Jan 2022 00:00:00 GMT\r\nLast-Modified: Sat, 01 J\
-             an 2022 00:00:00 GMT\r\nETag: \"0x0000000000000001\"\r\nContent-Length: 0\r\n\r\n",
-        end: ConnEnd::WriteFault,
-        taken: 552,
-        asked: 2,
-        full: None,
-        entries: 2,
     },
     // A full history.
     Row {
@@ -425,8 +246,6 @@ pub const ROWS: [Row; 17] = [
              Jan 2022 00:00:00 GMT\r\nx-ms-version: 2020-10-02\r\nAuthorization: SharedKey acct:AMj\
              hWUQzLFnHM6YkesIotWae2N/N3HbGk/zPw9xFPqg=\r\n\r\n",
         chunk: 4_096,
-        read: NONE,
-        put: NONE,
         out: "HTTP/1.1 503 Service Unavailable\r\nx-ms-request-id: 00000000-0000-0000-0000-000000000\
              000\r\nx-ms-version: 2020-10-02\r\nDate: Sat, 01 Jan 2022 00:00:00 GMT\r\nx-ms-error-c\
              ode: HistoryFull\r\nContent-Type: application/xml\r\nContent-Length: 109\r\n\r\n<?xml \
@@ -445,5 +264,63 @@ pub const ROWS: [Row; 17] = [
             limit: 0,
         }),
         entries: 0,
+    },
+    // Headers that stand twice: of the two ranges x-ms-range is read, two lengths that are the same are one length,
+    // and x-ms-write may stand once alone.
+    Row {
+        limit: 10,
+        budget: BUDGET,
+        input: "PUT /data?restype=share HTTP/1.1\r\nx-ms-date: Sat, 01 Jan 2022 00:00:00 GMT\r\nx-ms\
+             -version: 2020-10-02\r\nContent-Length: 0\r\nAuthorization: SharedKey acct:Hm3iDpk0XpE\
+             8Qz1X1SM2zDr3qhyy6hF8k+ll4QtJa5I=\r\n\r\nPUT /data/a.txt HTTP/1.1\r\nx-ms-date: Sat, 0\
+             1 Jan 2022 00:00:00 GMT\r\nx-ms-version: 2020-10-02\r\nContent-Length: 0\r\nx-ms-type: \
+             file\r\nx-ms-content-length: 4\r\nx-ms-file-permission: inherit\r\nx-ms-file-attribut\
+             es: none\r\nx-ms-file-creation-time: now\r\nx-ms-file-last-write-time: now\r\nAuthoriz\
+             ation: SharedKey acct:vImSkc2+95A+6u0slTxIpTv4RehAHrjrN9pzcEi6Kpc=\r\n\r\nPUT /data/a.\
+             txt?comp=range HTTP/1.1\r\nx-ms-date: Sat, 01 Jan 2022 00:00:00 GMT\r\nx-ms-version: 2\
+             020-10-02\r\nContent-Length: 4\r\nRange: bytes=5-6\r\nx-ms-range: bytes=0-3\r\nx-ms-wr\
+             ite: update\r\nAuthorization: SharedKey acct:VIGl9sWmyKQpbcU9EOxRBTceqDy6vNQugcZIE7UHy\
+             tA=\r\n\r\nnew!PUT /data/a.txt?comp=range HTTP/1.1\r\nx-ms-date: Sat, 01 Jan 2022 00:0\
+             0:00 GMT\r\nx-ms-version: 2020-10-02\r\nContent-Length: 2\r\ncontent-length: 2\r\nx-ms\
+             -range: bytes=1-2\r\nx-ms-write: update\r\nAuthorization: SharedKey acct:r1i8JKLTzDn8P\
+             ID3FHDiFOJjllNR2l6vLUH6sfSmER8=\r\n\r\nowPUT /data/a.txt?comp=range HTTP/1.1\r\nx-ms-d\
+             ate: Sat, 01 Jan 2022 00:00:00 GMT\r\nx-ms-version: 2020-10-02\r\nContent-Length: 4\r\
+             \nx-ms-range: bytes=0-3\r\nx-ms-write: update\r\nx-ms-write: update\r\nAuthorization: \
+             SharedKey acct:JY4gMJ8NtTsLAeAOPsqVuQiEs3VvRFPR+ML1LPzXExI=\r\n\r\nlostGET /data/a.txt \
+             HTTP/1.1\r\nx-ms-date: Sat, 01 Jan 2022 00:00:00 GMT\r\nx-ms-version: 2020-10-02\r\nA\
+             uthorization: SharedKey acct:AMjhWUQzLFnHM6YkesIotWae2N/N3HbGk/zPw9xFPqg=\r\n\r\n",
+        chunk: 4_096,
+        out: "HTTP/1.1 201 Created\r\nx-ms-request-id: 00000000-0000-0000-0000-000000000001\r\nx-ms-\
+             version: 2020-10-02\r\nDate: Sat, 01 Jan 2022 00:00:00 GMT\r\nLast-Modified: Sat, 01 J\
+             an 2022 00:00:00 GMT\r\nETag: \"0x0000000000000001\"\r\nContent-Length: 0\r\n\r\nHTTP/\
+             1.1 201 Created\r\nx-ms-request-id: 00000000-0000-0000-0000-000000000002\r\nx-ms-versi\
+             on: 2020-10-02\r\nDate: Sat, 01 Jan 2022 00:00:00 GMT\r\nLast-Modified: Sat, 01 Jan 20\
+             22 00:00:00 GMT\r\nETag: \"0x0000000000000002\"\r\nx-ms-file-attributes: None\r\nx-ms-\
+             file-creation-time: 2022-01-01T00:00:00.0000000Z\r\nx-ms-file-last-write-time: 2022-01\
+             -01T00:00:00.0000000Z\r\nx-ms-file-change-time: 2022-01-01T00:00:00.0000000Z\r\nx-ms-f\
+             ile-id: 2\r\nx-ms-file-parent-id: 1\r\nContent-Length: 0\r\n\r\nHTTP/1.1 201 Created\r\
+             \nx-ms-request-id: 00000000-0000-0000-0000-000000000003\r\nx-ms-version: 2020-10-02\r\
+             \nDate: Sat, 01 Jan 2022 00:00:00 GMT\r\nLast-Modified: Sat, 01 Jan 2022 00:00:00 GMT\
+             \r\nETag: \"0x0000000000000003\"\r\nContent-Length: 0\r\n\r\nHTTP/1.1 201 Created\r\nx\
+             -ms-request-id: 00000000-0000-0000-0000-000000000004\r\nx-ms-version: 2020-10-02\r\nDa\
+             te: Sat, 01 Jan 2022 00:00:00 GMT\r\nLast-Modified: Sat, 01 Jan 2022 00:00:00 GMT\r\nE\
+             Tag: \"0x0000000000000004\"\r\nContent-Length: 0\r\n\r\nHTTP/1.1 400 Bad Request\r\nx-\
+             ms-request-id: 00000000-0000-0000-0000-000000000000\r\nx-ms-version: 2020-10-02\r\nDat\
+             e: Sat, 01 Jan 2022 00:00:00 GMT\r\nx-ms-error-code: InvalidHeaderValue\r\nContent-Typ\
+             e: application/xml\r\nContent-Length: 120\r\n\r\n<?xml version=\"1.0\" encoding=\"utf-\
+             8\"?><Error><Code>InvalidHeaderValue</Code><Message>header x-ms-write</Message></Error\
+             >HTTP/1.1 200 OK\r\nx-ms-request-id: 00000000-0000-0000-0000-000000000005\r\nx-ms-vers\
+             ion: 2020-10-02\r\nDate: Sat, 01 Jan 2022 00:00:00 GMT\r\nLast-Modified: Sat, 01 Jan 2\
+             022 00:00:00 GMT\r\nETag: \"0x0000000000000004\"\r\nContent-Type: application/octet-st\
+             ream\r\nAccept-Ranges: bytes\r\nx-ms-type: File\r\nx-ms-file-attributes: None\r\nx-ms-\
+             file-creation-time: 2022-01-01T00:00:00.0000000Z\r\nx-ms-file-last-write-time: 2022-01\
+             -01T00:00:00.0000000Z\r\nx-ms-file-change-time: 2022-01-01T00:00:00.0000000Z\r\nx-ms-f\
+             ile-id: 2\r\nx-ms-file-parent-id: 1\r\nx-ms-lease-status: unlocked\r\nx-ms-lease-state\
+             : available\r\nContent-Length: 4\r\n\r\nnow!",
+        end: ConnEnd::Ended,
+        taken: 1_526,
+        asked: 5,
+        full: None,
+        entries: 5,
     },
 ];

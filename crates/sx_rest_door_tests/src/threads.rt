@@ -21,14 +21,14 @@ const REQUESTS: u64 = 40;
 const BYTES: u64 = 6_880;
 
 /// A connection's pass and link, and its report once it was served.
-struct Lane {
-    pass: Pass,
-    link: MemLink,
-    report: Option<ConnReport>,
+pub struct Lane {
+    pub pass: Pass,
+    pub link: MemLink,
+    pub report: Option<ConnReport>,
 }
 
 /// A link with forty listings.
-fn link(rt: &impl Abort, alloc: Global, chunk: usize) -> MemLink {
+pub fn link(rt: &impl Abort, alloc: Global, chunk: usize) -> MemLink {
     let mut bytes = Vec::new(alloc);
     for _ in 0..40u32 {
         assert!(rt; bytes.extend_from_slice(LISTING.as_bytes()).is_ok());
@@ -40,7 +40,7 @@ fn link(rt: &impl Abort, alloc: Global, chunk: usize) -> MemLink {
     }
 }
 
-fn begun(rt: &impl Abort, alloc: Global) -> (Office, Pass)
+pub fn begun(rt: &impl Abort, alloc: Global) -> (Office, Pass)
     ensures { result.1.office ≡ result.0 }
 {
     match Office::begin(alloc, 1_000) {
@@ -49,7 +49,7 @@ fn begun(rt: &impl Abort, alloc: Global) -> (Office, Pass)
     }
 }
 
-fn new_lane<R: Abort + Wait>(rt: &R, office: &Office, main: &mut Pass, link: MemLink) -> Lane
+pub fn new_lane<R: Abort + Wait>(rt: &R, office: &Office, main: &mut Pass, link: MemLink) -> Lane
     requires own { main.old.office ≡ office.now }
     ensures same { main.new.office ≡ office.now }
     ensures new { result.pass.office ≡ office.now }
@@ -65,7 +65,7 @@ fn new_lane<R: Abort + Wait>(rt: &R, office: &Office, main: &mut Pass, link: Mem
 }
 
 /// Serves the lane's connection.
-fn run_lane<R: Abort + Wait>(rt: &R, alloc: Global, office: &Office, lane: &mut Lane)
+pub fn run_lane<R: Abort + Wait>(rt: &R, alloc: Global, office: &Office, lane: &mut Lane)
     requires own { lane.old.pass.office ≡ office.now }
     ensures same { lane.new.pass.office ≡ office.now }
 {
@@ -108,7 +108,7 @@ fn run_lanes<R: Abort + Threads + Wait + Sync>(
 }
 
 /// Meets the lane's pass, whose connection answered all of its requests.
-fn land<R: Abort>(rt: &R, office: &Office, main: &mut Pass, lane: Lane)
+pub fn land<R: Abort>(rt: &R, office: &Office, main: &mut Pass, lane: Lane)
     requires own { (main.old.office ≡ office.now) × (lane.pass.office ≡ office.now) }
     ensures same { main.new.office ≡ office.now }
 {
@@ -125,7 +125,7 @@ fn land<R: Abort>(rt: &R, office: &Office, main: &mut Pass, lane: Lane)
     assert!(rt; link.sink.bytes().starts_with(b"HTTP/1.1 200 OK\r\n"));
 }
 
-fn closed<R: Abort + Wait>(rt: &R, office: Office, main: Pass) -> Book
+pub fn closed<R: Abort + Wait>(rt: &R, office: Office, main: Pass) -> Book
     requires { main.office ≡ office }
 {
     match office.close(rt, main) {
