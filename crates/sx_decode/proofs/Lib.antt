@@ -5,3 +5,4 @@ pub mod Lent
 pub mod MetaNames
 pub mod MomentTexts
 pub mod NewAttributes
+pub mod RowsApart

@@ -16,6 +16,7 @@ pub mod Numbers
 pub mod Parameters
 pub mod Ranges
 pub mod Reading
+pub mod Rows
 pub mod ShareRows
 pub mod Spelling
 pub mod Table

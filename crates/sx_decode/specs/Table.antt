@@ -1,4 +1,4 @@
--- The table of calls, and the row that a request fits.
+-- The row of the table of calls that a request fits.
 use Rattle.std.specs.Prelude.{ℕ, ◌==◌, ◌&&◌, nat_lt, Bool, true, not, Option}
 use Rattle.std.specs.List.{find}
 use Rattle.sx_decode.specs.declared.forms.Verb.{Verb}
@@ -17,7 +17,7 @@ use Rattle.sx_decode.specs.declared.forms.Told.{Told}
 use Rattle.sx_decode.specs.declared.forms.Told.TheVariants.{Alone, NoSnapshot, Snapshot, Update, Clear}
 use Rattle.sx_decode.specs.declared.forms.Form.{Form}
 use Rattle.sx_decode.specs.declared.choice.Key.{Key}
-use Rattle.sx_decode.specs.declared.table.TheConstants.{TABLE}
+use Rattle.sx_decode.specs.Rows.{table}
 
 -- the place of a method in its list
 abbrev pub verb_number : Verb → ℕ
@@ -94,4 +94,4 @@ fits key form =
 
 -- the first row that the request fits
 unfoldable pub row_of : Key → Option Form
-row_of key = find (fits key) TABLE
+row_of key = find (fits key) table

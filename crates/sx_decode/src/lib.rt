@@ -35,6 +35,6 @@ pub mod times;
 mod unread;
 pub mod words;
 
-pub use laws::requests_are_determined;
+pub use laws::{requests_are_determined, rows_are_apart, table_is_exact};
 pub use spelling::call_of;
 pub use unread::Unread;
