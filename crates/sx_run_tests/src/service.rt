@@ -1,145 +1,115 @@
 //! The service over listeners in memory, from its words to its status.
 
+use crate::common::{LISTING, Size, listener, status};
 use std::alloc::Global;
 use std::process::Abort;
 use std::sync::Wait;
 use std::thread::Threads;
-use sx_base::{MemLink, MemListener, MemSink, MemSource, StepClock, StepWords};
-use sx_key::Account;
-use sx_run::{ServeWords, serve};
+use sx_base::{MemListener, MemSink};
 
-/// What the service is given, and what comes of it: one link of the REST door, and two of the session door.
+/// What the service is given, and what comes of it.
 struct Row {
-    limit: u32,
+    workers: u32,
     conns: u32,
-    rest: &'static [u8],
-    first: &'static [u8],
-    second: &'static [u8],
+    limit: u32,
+    /// The links of the REST door, and those of the session door.
+    rest: &'static [&'static [u8]],
+    smb: &'static [&'static [u8]],
     status: u8,
-    /// How many links the session door finished.
-    finished: usize,
+    /// How many links each door finished.
+    finished: [usize; 2],
+    /// What the first finished session was answered.
     answer: &'static [u8],
 }
 
-const ROWS: [Row; 3] = [
+const ROWS: [Row; 5] = [
     // Each link is served, and the listeners have none left.
     Row {
-        limit: 100,
+        workers: 1,
         conns: 0,
-        rest: b"GET / HTTP/1.1\r\n\r\n",
-        first: b"close 1\n",
-        second: b"quit\n",
+        limit: 100,
+        rest: &[b"GET / HTTP/1.1\r\n\r\n"],
+        smb: &[b"close 1\n", b"quit\n"],
         status: 0,
-        finished: 2,
+        finished: [1, 2],
         answer: b"ERR INVALID_HANDLE 2 handle 1.1\n",
+    },
+    // So they are by several workers of each door, of which one has links.
+    Row {
+        workers: 3,
+        conns: 0,
+        limit: 100,
+        rest: &[LISTING, b"", LISTING, b"GET / HTTP/1.1\r\n\r\n"],
+        smb: &[b"sing\nsing\n", b"quit\n", b"close 1\n"],
+        status: 0,
+        finished: [4, 3],
+        answer: b"ERR SYNTAX 0\nERR SYNTAX 0\n",
     },
     // A worker serves no more links than it may.
     Row {
-        limit: 100,
+        workers: 2,
         conns: 1,
-        rest: b"",
-        first: b"close 1\n",
-        second: b"quit\n",
+        limit: 100,
+        rest: &[b"", b""],
+        smb: &[b"close 1\n", b"quit\n"],
         status: 0,
-        finished: 1,
+        finished: [1, 1],
         answer: b"ERR INVALID_HANDLE 2 handle 1.1\n",
     },
     // No session can start.
     Row {
-        limit: 1,
+        workers: 1,
         conns: 0,
-        rest: b"",
-        first: b"close 1\n",
-        second: b"quit\n",
+        limit: 1,
+        rest: &[b""],
+        smb: &[b"close 1\n", b"quit\n"],
         status: 7,
-        finished: 2,
+        finished: [1, 2],
+        answer: b"",
+    },
+    // The second listing finds no place, nor does a session.
+    Row {
+        workers: 2,
+        conns: 0,
+        limit: 1,
+        rest: &[LISTING, LISTING],
+        smb: &[b"close 1\n"],
+        status: 7,
+        finished: [2, 1],
         answer: b"",
     },
 ];
 
-fn link(rt: &impl Abort, alloc: Global, bytes: &[u8]) -> MemLink {
-    match Vec::from_slice(alloc, bytes) {
-        Ok(bytes) => MemLink {
-            source: MemSource::new(bytes, 7, Vec::new(alloc)),
-            sink: MemSink::new(alloc, Vec::new(alloc)),
-            peer: 7,
-        },
-        Err(_) => panic!(rt; "no memory"),
-    }
+/// Whether both doors finished so many links, and the first session was answered so.
+fn was_served(row: &Row, rest: &MemListener, smb: &MemListener) -> bool {
+    let finished = smb.finished();
+    rest.finished().len() == row.finished[0]
+        && finished.len() == row.finished[1]
+        && !finished.is_empty()
+        && finished[0].sink.bytes() == row.answer
 }
 
-fn listener(rt: &impl Abort, alloc: Global, links: Vec<MemLink>) -> MemListener {
-    match MemListener::new(alloc, links) {
-        Ok(listener) => listener,
-        Err(_) => panic!(rt; "no memory"),
-    }
-}
-
-fn one(rt: &impl Abort, alloc: Global, first: &[u8]) -> MemListener {
-    let mut links = Vec::new(alloc);
-    assert!(rt; links.push(link(rt, alloc, first)).is_ok());
-    listener(rt, alloc, links)
-}
-
-fn two(rt: &impl Abort, alloc: Global, first: &[u8], second: &[u8]) -> MemListener {
-    let mut links = Vec::new(alloc);
-    assert!(rt; links.push(link(rt, alloc, first)).is_ok());
-    assert!(rt; links.push(link(rt, alloc, second)).is_ok());
-    listener(rt, alloc, links)
-}
-
-fn account(rt: &impl Abort, alloc: Global) -> Account {
-    match Account::read(alloc, b"acct", b"a2V5") {
-        Ok(account) => account,
-        Err(_) => panic!(rt; "no account"),
-    }
-}
-
-fn status<R: Abort + Threads + Wait + Sync>(
-    rt: &R,
-    alloc: Global,
-    row: &Row,
-    out: &mut MemSink,
-    rest: &mut MemListener,
-    smb: &mut MemListener,
-) -> u8 {
-    let words = ServeWords {
+fn check<R: Abort + Threads + Wait + Sync>(rt: &R, alloc: Global, number: usize, row: &Row) {
+    let mut out = MemSink::new(alloc, Vec::new(alloc));
+    let mut rest = listener(rt, alloc, row.rest);
+    let mut smb = listener(rt, alloc, row.smb);
+    let size = Size {
         rest_port: 8080,
         smb_port: 4450,
-        rest_workers: 1,
-        smb_workers: 1,
+        workers: row.workers,
         conns: row.conns,
         limit: row.limit,
-        account: account(rt, alloc),
     };
-    let mut clock = StepClock {
-        at: 16_409_952_000_000_000,
-        step: 0,
-    };
-    let mut random = StepWords { at: 0 };
-    serve(alloc, rt, &words, out, rest, smb, &mut clock, &mut random)
-}
-
-fn check<R: Abort + Threads + Wait + Sync>(rt: &R, alloc: Global, row: &Row) {
-    let mut out = MemSink::new(alloc, Vec::new(alloc));
-    let mut rest = one(rt, alloc, row.rest);
-    let mut smb = two(rt, alloc, row.first, row.second);
-    assert_eq!(rt;
-        status(rt, alloc, row, &mut out, &mut rest, &mut smb),
-        row.status
-    );
+    let status = status(rt, alloc, size, &mut out, &mut rest, &mut smb);
+    assert_eq!(rt; status, row.status, "at {number}");
     assert_eq!(rt; out.bytes(), b"rest 8080\nsmb 4450\n".as_slice());
-    assert_eq!(rt; rest.finished().len(), 1);
-    let finished = smb.finished();
-    assert_eq!(rt; finished.len(), row.finished);
-    assert!(rt; !finished.is_empty());
-    assert_eq!(rt; finished[0].sink.bytes(), row.answer);
+    assert!(rt; was_served(row, &rest, &smb), "at {number}");
 }
 
 #[test]
 fn the_service_serves(rt: HostRuntime) {
     let alloc = rt.alloc();
-    for row in &ROWS {
-        check(&rt, alloc, row);
+    for (number, row) in ROWS.iter().enumerate() {
+        check(&rt, alloc, number, row);
     }
 }
