@@ -1,0 +1,466 @@
+//! The calls on a share, each in the state that the calls before it left.
+
+use crate::asking::{Ask, asks};
+use crate::opening::{begun, closed, outside};
+
+/// A share from its making to its end, with its lease and a snapshot.
+const SHARES: [Ask; 28] = [
+    Ask {
+        asks: "PUT /data?restype=share",
+        with: &[
+            "Content-Length: 0",
+            "x-ms-share-quota: 7",
+            "x-ms-meta-owner: ann",
+        ],
+        body: "",
+        told: "201 Created",
+        place: "01",
+        at: "00:00:00",
+        heads: &[
+            "Last-Modified: Sat, 01 Jan 2022 00:00:00 GMT",
+            "ETag: \"0x0000000000000001\"",
+            "Content-Length: 0",
+        ],
+        says: "",
+    },
+    Ask {
+        asks: "GET /data?restype=share",
+        with: &[],
+        body: "",
+        told: "200 OK",
+        place: "02",
+        at: "00:00:01",
+        heads: &[
+            "Last-Modified: Sat, 01 Jan 2022 00:00:00 GMT",
+            "ETag: \"0x0000000000000001\"",
+            "x-ms-share-quota: 7",
+            "x-ms-lease-status: unlocked",
+            "x-ms-lease-state: available",
+            "x-ms-meta-owner: ann",
+            "Content-Length: 0",
+        ],
+        says: "",
+    },
+    Ask {
+        asks: "HEAD /data?restype=share",
+        with: &[],
+        body: "",
+        told: "200 OK",
+        place: "03",
+        at: "00:00:02",
+        heads: &[
+            "Last-Modified: Sat, 01 Jan 2022 00:00:00 GMT",
+            "ETag: \"0x0000000000000001\"",
+            "x-ms-share-quota: 7",
+            "x-ms-lease-status: unlocked",
+            "x-ms-lease-state: available",
+            "x-ms-meta-owner: ann",
+            "Content-Length: 0",
+        ],
+        says: "",
+    },
+    Ask {
+        asks: "PUT /data?restype=share&comp=properties",
+        with: &["Content-Length: 0", "x-ms-share-quota: 9"],
+        body: "",
+        told: "200 OK",
+        place: "04",
+        at: "00:00:03",
+        heads: &[
+            "Last-Modified: Sat, 01 Jan 2022 00:00:03 GMT",
+            "ETag: \"0x0000000000000004\"",
+            "Content-Length: 0",
+        ],
+        says: "",
+    },
+    Ask {
+        asks: "PUT /data?restype=share&comp=metadata",
+        with: &[
+            "Content-Length: 0",
+            "x-ms-meta-team: red",
+            "x-ms-meta-Note: two words",
+        ],
+        body: "",
+        told: "200 OK",
+        place: "05",
+        at: "00:00:04",
+        heads: &[
+            "Last-Modified: Sat, 01 Jan 2022 00:00:04 GMT",
+            "ETag: \"0x0000000000000005\"",
+            "Content-Length: 0",
+        ],
+        says: "",
+    },
+    Ask {
+        asks: "GET /data?restype=share&comp=metadata",
+        with: &[],
+        body: "",
+        told: "200 OK",
+        place: "06",
+        at: "00:00:05",
+        heads: &[
+            "Last-Modified: Sat, 01 Jan 2022 00:00:04 GMT",
+            "ETag: \"0x0000000000000005\"",
+            "x-ms-meta-note: two words",
+            "x-ms-meta-team: red",
+            "Content-Length: 0",
+        ],
+        says: "",
+    },
+    Ask {
+        asks: "PUT /data?restype=share&comp=lease",
+        with: &[
+            "Content-Length: 0",
+            "x-ms-lease-action: acquire",
+            "x-ms-lease-duration: -1",
+            "x-ms-proposed-lease-id: 11111111-2222-3333-4444-555555555555",
+        ],
+        body: "",
+        told: "201 Created",
+        place: "07",
+        at: "00:00:06",
+        heads: &[
+            "Last-Modified: Sat, 01 Jan 2022 00:00:04 GMT",
+            "ETag: \"0x0000000000000005\"",
+            "x-ms-lease-id: 11111111-2222-3333-4444-555555555555",
+            "Content-Length: 0",
+        ],
+        says: "",
+    },
+    Ask {
+        asks: "PUT /data?restype=share&comp=lease",
+        with: &[
+            "Content-Length: 0",
+            "x-ms-lease-action: change",
+            "x-ms-lease-id: 11111111-2222-3333-4444-555555555555",
+            "x-ms-proposed-lease-id: aaaaaaaa-bbbb-cccc-dddd-eeeeeeeeeeee",
+        ],
+        body: "",
+        told: "200 OK",
+        place: "08",
+        at: "00:00:07",
+        heads: &[
+            "Last-Modified: Sat, 01 Jan 2022 00:00:04 GMT",
+            "ETag: \"0x0000000000000005\"",
+            "x-ms-lease-id: aaaaaaaa-bbbb-cccc-dddd-eeeeeeeeeeee",
+            "Content-Length: 0",
+        ],
+        says: "",
+    },
+    Ask {
+        asks: "GET /data?restype=share",
+        with: &["x-ms-lease-id: aaaaaaaa-bbbb-cccc-dddd-eeeeeeeeeeee"],
+        body: "",
+        told: "200 OK",
+        place: "09",
+        at: "00:00:08",
+        heads: &[
+            "Last-Modified: Sat, 01 Jan 2022 00:00:04 GMT",
+            "ETag: \"0x0000000000000005\"",
+            "x-ms-share-quota: 9",
+            "x-ms-lease-status: locked",
+            "x-ms-lease-state: leased",
+            "x-ms-lease-duration: infinite",
+            "x-ms-meta-note: two words",
+            "x-ms-meta-team: red",
+            "Content-Length: 0",
+        ],
+        says: "",
+    },
+    Ask {
+        asks: "PUT /data?restype=share&comp=metadata",
+        with: &["Content-Length: 0"],
+        body: "",
+        told: "412 Precondition Failed",
+        place: "0a",
+        at: "00:00:09",
+        heads: &[
+            "x-ms-error-code: LeaseIdMissing",
+            "Content-Type: application/xml",
+            "Content-Length: 109",
+        ],
+        says: "<?xml version=\"1.0\" encoding=\"utf-8\"?><Error><Code>LeaseIdMissing</Code><Message>lea\
+             se held</Message></Error>",
+    },
+    Ask {
+        asks: "PUT /data?restype=share&comp=metadata",
+        with: &[
+            "Content-Length: 0",
+            "x-ms-lease-id: 11111111-2222-3333-4444-555555555555",
+        ],
+        body: "",
+        told: "412 Precondition Failed",
+        place: "0b",
+        at: "00:00:10",
+        heads: &[
+            "x-ms-error-code: LeaseIdMismatchWithShareOperation",
+            "Content-Type: application/xml",
+            "Content-Length: 131",
+        ],
+        says: "<?xml version=\"1.0\" encoding=\"utf-8\"?><Error><Code>LeaseIdMismatchWithShareOperation\
+             </Code><Message>lease differs</Message></Error>",
+    },
+    Ask {
+        asks: "PUT /data?restype=share&comp=lease",
+        with: &[
+            "Content-Length: 0",
+            "x-ms-lease-action: release",
+            "x-ms-lease-id: aaaaaaaa-bbbb-cccc-dddd-eeeeeeeeeeee",
+        ],
+        body: "",
+        told: "200 OK",
+        place: "0c",
+        at: "00:00:11",
+        heads: &[
+            "Last-Modified: Sat, 01 Jan 2022 00:00:04 GMT",
+            "ETag: \"0x0000000000000005\"",
+            "Content-Length: 0",
+        ],
+        says: "",
+    },
+    Ask {
+        asks: "GET /data?restype=share",
+        with: &["x-ms-lease-id: aaaaaaaa-bbbb-cccc-dddd-eeeeeeeeeeee"],
+        body: "",
+        told: "412 Precondition Failed",
+        place: "0d",
+        at: "00:00:12",
+        heads: &[
+            "x-ms-error-code: LeaseNotPresentWithShareOperation",
+            "Content-Type: application/xml",
+            "Content-Length: 126",
+        ],
+        says: "<?xml version=\"1.0\" encoding=\"utf-8\"?><Error><Code>LeaseNotPresentWithShareOperation\
+             </Code><Message>no lease</Message></Error>",
+    },
+    Ask {
+        asks: "PUT /data?restype=share&comp=lease",
+        with: &["Content-Length: 0", "x-ms-lease-action: break"],
+        body: "",
+        told: "409 Conflict",
+        place: "0e",
+        at: "00:00:13",
+        heads: &[
+            "x-ms-error-code: LeaseNotPresentWithLeaseOperation",
+            "Content-Type: application/xml",
+            "Content-Length: 133",
+        ],
+        says: "<?xml version=\"1.0\" encoding=\"utf-8\"?><Error><Code>LeaseNotPresentWithLeaseOperation\
+             </Code><Message>lease not there</Message></Error>",
+    },
+    // Without a proposed id it is made from the two random words of the call.
+    Ask {
+        asks: "PUT /data?restype=share&comp=lease",
+        with: &["Content-Length: 0", "x-ms-lease-action: acquire"],
+        body: "",
+        told: "201 Created",
+        place: "0f",
+        at: "00:00:14",
+        heads: &[
+            "Last-Modified: Sat, 01 Jan 2022 00:00:04 GMT",
+            "ETag: \"0x0000000000000005\"",
+            "x-ms-lease-id: 00000000-0000-401c-8000-00000000001d",
+            "Content-Length: 0",
+        ],
+        says: "",
+    },
+    Ask {
+        asks: "PUT /data?restype=share&comp=lease",
+        with: &["Content-Length: 0", "x-ms-lease-action: break"],
+        body: "",
+        told: "202 Accepted",
+        place: "10",
+        at: "00:00:15",
+        heads: &[
+            "Last-Modified: Sat, 01 Jan 2022 00:00:04 GMT",
+            "ETag: \"0x0000000000000005\"",
+            "x-ms-lease-time: 0",
+            "Content-Length: 0",
+        ],
+        says: "",
+    },
+    Ask {
+        asks: "GET /data?restype=share",
+        with: &[],
+        body: "",
+        told: "200 OK",
+        place: "11",
+        at: "00:00:16",
+        heads: &[
+            "Last-Modified: Sat, 01 Jan 2022 00:00:04 GMT",
+            "ETag: \"0x0000000000000005\"",
+            "x-ms-share-quota: 9",
+            "x-ms-lease-status: unlocked",
+            "x-ms-lease-state: broken",
+            "x-ms-meta-note: two words",
+            "x-ms-meta-team: red",
+            "Content-Length: 0",
+        ],
+        says: "",
+    },
+    Ask {
+        asks: "PUT /data?restype=share&comp=snapshot",
+        with: &["Content-Length: 0", "x-ms-meta-kept: yes"],
+        body: "",
+        told: "201 Created",
+        place: "12",
+        at: "00:00:17",
+        heads: &[
+            "x-ms-snapshot: 2022-01-01T00:00:17.0000000Z",
+            "Last-Modified: Sat, 01 Jan 2022 00:00:04 GMT",
+            "ETag: \"0x0000000000000005\"",
+            "Content-Length: 0",
+        ],
+        says: "",
+    },
+    Ask {
+        asks: "PUT /data?restype=share&comp=properties",
+        with: &["Content-Length: 0", "x-ms-share-quota: 5"],
+        body: "",
+        told: "200 OK",
+        place: "13",
+        at: "00:00:18",
+        heads: &[
+            "Last-Modified: Sat, 01 Jan 2022 00:00:18 GMT",
+            "ETag: \"0x0000000000000013\"",
+            "Content-Length: 0",
+        ],
+        says: "",
+    },
+    Ask {
+        asks: "GET /data?restype=share&sharesnapshot=2022-01-01T00:00:17.0000000Z",
+        with: &[],
+        body: "",
+        told: "200 OK",
+        place: "14",
+        at: "00:00:19",
+        heads: &[
+            "Last-Modified: Sat, 01 Jan 2022 00:00:04 GMT",
+            "ETag: \"0x0000000000000005\"",
+            "x-ms-share-quota: 9",
+            "x-ms-lease-status: unlocked",
+            "x-ms-lease-state: available",
+            "x-ms-meta-kept: yes",
+            "Content-Length: 0",
+        ],
+        says: "",
+    },
+    Ask {
+        asks: "GET /data?restype=share&comp=metadata&sharesnapshot=2022-01-01T00:00:17.0000000Z",
+        with: &[],
+        body: "",
+        told: "200 OK",
+        place: "15",
+        at: "00:00:20",
+        heads: &[
+            "Last-Modified: Sat, 01 Jan 2022 00:00:04 GMT",
+            "ETag: \"0x0000000000000005\"",
+            "x-ms-meta-kept: yes",
+            "Content-Length: 0",
+        ],
+        says: "",
+    },
+    Ask {
+        asks: "GET /?comp=list&include=snapshots",
+        with: &[],
+        body: "",
+        told: "200 OK",
+        place: "16",
+        at: "00:00:21",
+        heads: &["Content-Type: application/xml", "Content-Length: 565"],
+        says: "<?xml version=\"1.0\" encoding=\"utf-8\"?><EnumerationResults><Prefix></Prefix><Marker><\
+             /Marker><MaxResults>5000</MaxResults><Shares><Share><Name>data</Name><Properties><Last-M\
+             odified>Sat, 01 Jan 2022 00:00:18 GMT</Last-Modified><Etag>\"0x0000000000000013\"</Etag>\
+             <Quota>5</Quota></Properties></Share><Share><Name>data</Name><Snapshot>2022-01-01T00:00:\
+             17.0000000Z</Snapshot><Properties><Last-Modified>Sat, 01 Jan 2022 00:00:04 GMT</Last-Mod\
+             ified><Etag>\"0x0000000000000005\"</Etag><Quota>9</Quota></Properties></Share></Shares><\
+             NextMarker></NextMarker></EnumerationResults>",
+    },
+    Ask {
+        asks: "GET /?comp=list&prefix=da&maxresults=1&include=snapshots",
+        with: &[],
+        body: "",
+        told: "200 OK",
+        place: "17",
+        at: "00:00:22",
+        heads: &["Content-Type: application/xml", "Content-Length: 382"],
+        says: "<?xml version=\"1.0\" encoding=\"utf-8\"?><EnumerationResults><Prefix>da</Prefix><Marker\
+             ></Marker><MaxResults>1</MaxResults><Shares><Share><Name>data</Name><Properties><Last-Mo\
+             dified>Sat, 01 Jan 2022 00:00:18 GMT</Last-Modified><Etag>\"0x0000000000000013\"</Etag><\
+             Quota>5</Quota></Properties></Share></Shares><NextMarker>data@2022-01-01T00:00:17.000000\
+             0Z</NextMarker></EnumerationResults>",
+    },
+    Ask {
+        asks: "DELETE /data?restype=share",
+        with: &[],
+        body: "",
+        told: "409 Conflict",
+        place: "18",
+        at: "00:00:23",
+        heads: &[
+            "x-ms-error-code: ShareHasSnapshots",
+            "Content-Type: application/xml",
+            "Content-Length: 113",
+        ],
+        says: "<?xml version=\"1.0\" encoding=\"utf-8\"?><Error><Code>ShareHasSnapshots</Code><Message>\
+             snapshots 1</Message></Error>",
+    },
+    Ask {
+        asks: "DELETE /data?restype=share&sharesnapshot=2022-01-01T00:00:17.0000000Z",
+        with: &[],
+        body: "",
+        told: "202 Accepted",
+        place: "19",
+        at: "00:00:24",
+        heads: &["Content-Length: 0"],
+        says: "",
+    },
+    Ask {
+        asks: "GET /data?restype=share&sharesnapshot=2022-01-01T00:00:17.0000000Z",
+        with: &[],
+        body: "",
+        told: "404 Not Found",
+        place: "1a",
+        at: "00:00:25",
+        heads: &[
+            "x-ms-error-code: ShareSnapshotNotFound",
+            "Content-Type: application/xml",
+            "Content-Length: 117",
+        ],
+        says: "<?xml version=\"1.0\" encoding=\"utf-8\"?><Error><Code>ShareSnapshotNotFound</Code><Mess\
+             age>no snapshot</Message></Error>",
+    },
+    Ask {
+        asks: "DELETE /data?restype=share",
+        with: &[],
+        body: "",
+        told: "202 Accepted",
+        place: "1b",
+        at: "00:00:26",
+        heads: &["Content-Length: 0"],
+        says: "",
+    },
+    Ask {
+        asks: "HEAD /data?restype=share",
+        with: &[],
+        body: "",
+        told: "404 Not Found",
+        place: "1c",
+        at: "00:00:27",
+        heads: &[
+            "x-ms-error-code: ShareNotFound",
+            "Content-Type: application/xml",
+            "Content-Length: 0",
+        ],
+        says: "",
+    },
+];
+
+#[test]
+fn the_calls_on_a_share(rt: HostRuntime) {
+    let alloc = rt.alloc();
+    let mut outside = outside(&rt, alloc, 10_000_000);
+    let (office, mut pass) = begun(&rt, alloc);
+    asks(&rt, alloc, &office, &mut pass, &mut outside, &SHARES);
+    assert_eq!(rt; closed(&rt, office, pass).entries().len(), SHARES.len());
+}
