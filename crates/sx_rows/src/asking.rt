@@ -19,28 +19,27 @@ pub(crate) struct Ask {
     pub asks: &'static str,
     /// The headers, but for the date, the version of the service and the signature.
     pub with: &'static [&'static str],
+    /// The body, whose length is among the headers.
     pub body: &'static str,
-    /// The status and its phrase.
-    pub told: &'static str,
-    /// The last two digits of the answer's number, which is the place of the call in the history.
-    pub place: &'static str,
-    /// The time of day of the call.
-    pub at: &'static str,
+    /// The status with its phrase, the last two digits of the answer's number, which is the call's place in the
+    /// history, and the time of day of the call.
+    pub told: (&'static str, &'static str, &'static str),
     /// The other headers of the answer.
     pub heads: &'static [&'static str],
+    /// The body of the answer.
     pub says: &'static str,
 }
 
-fn put(rt: &impl Abort, text: &mut Vec<u8>, bytes: &[u8]) {
+pub(crate) fn put(rt: &impl Abort, text: &mut Vec<u8>, bytes: &[u8]) {
     assert!(rt; text.extend_from_slice(bytes).is_ok(), "no memory");
 }
 
-fn put_line(rt: &impl Abort, text: &mut Vec<u8>, line: &str) {
+pub(crate) fn put_line(rt: &impl Abort, text: &mut Vec<u8>, line: &str) {
     put(rt, text, line.as_bytes());
     put(rt, text, b"\r\n");
 }
 
-fn put_lines(rt: &impl Abort, text: &mut Vec<u8>, lines: &[&str]) {
+pub(crate) fn put_lines(rt: &impl Abort, text: &mut Vec<u8>, lines: &[&str]) {
     for line in lines.iter() {
         put_line(rt, text, line);
     }
@@ -70,7 +69,12 @@ fn head_of(rt: &impl Abort, alloc: Global, lines: &[u8]) -> Head {
 }
 
 /// Puts the signature's header behind the lines.
-fn put_signature(rt: &impl Abort, alloc: Global, account: &Account, lines: &mut Vec<u8>) {
+pub(crate) fn put_signature(
+    rt: &impl Abort,
+    alloc: Global,
+    account: &Account,
+    lines: &mut Vec<u8>,
+) {
     let head = head_of(rt, alloc, lines);
     match sign(alloc, &head, account) {
         Ok(value) => {
@@ -82,7 +86,7 @@ fn put_signature(rt: &impl Abort, alloc: Global, account: &Account, lines: &mut 
 }
 
 /// The whole request, signed.
-fn request(rt: &impl Abort, alloc: Global, account: &Account, ask: &Ask) -> Vec<u8> {
+pub(crate) fn request(rt: &impl Abort, alloc: Global, account: &Account, ask: &Ask) -> Vec<u8> {
     let mut text = unsigned(rt, alloc, ask);
     put_signature(rt, alloc, account, &mut text);
     put_line(rt, &mut text, "");
@@ -91,19 +95,20 @@ fn request(rt: &impl Abort, alloc: Global, account: &Account, ask: &Ask) -> Vec<
 }
 
 /// The whole answer that the row wants.
-fn wanted(rt: &impl Abort, alloc: Global, ask: &Ask) -> Vec<u8> {
+pub(crate) fn wanted(rt: &impl Abort, alloc: Global, ask: &Ask) -> Vec<u8> {
+    let (status, place, at) = ask.told;
     let mut text = Vec::new(alloc);
     put(rt, &mut text, b"HTTP/1.1 ");
-    put_line(rt, &mut text, ask.told);
+    put_line(rt, &mut text, status);
     put(
         rt,
         &mut text,
         b"x-ms-request-id: 00000000-0000-0000-0000-0000000000",
     );
-    put_line(rt, &mut text, ask.place);
+    put_line(rt, &mut text, place);
     put_line(rt, &mut text, "x-ms-version: 2020-10-02");
     put(rt, &mut text, b"Date: Sat, 01 Jan 2022 ");
-    put(rt, &mut text, ask.at.as_bytes());
+    put(rt, &mut text, at.as_bytes());
     put_line(rt, &mut text, " GMT");
     put_lines(rt, &mut text, ask.heads);
     put_line(rt, &mut text, "");
@@ -111,7 +116,7 @@ fn wanted(rt: &impl Abort, alloc: Global, ask: &Ask) -> Vec<u8> {
     text
 }
 
-fn link(alloc: Global, bytes: Vec<u8>) -> MemLink {
+pub(crate) fn link(alloc: Global, bytes: Vec<u8>) -> MemLink {
     MemLink {
         source: MemSource::new(bytes, 4_096, Vec::new(alloc)),
         sink: MemSink::new(alloc, Vec::new(alloc)),
@@ -130,7 +135,7 @@ pub(crate) fn same(rt: &impl Abort, asked: &str, answered: &[u8], wanted: &[u8])
 }
 
 /// Serves a connection that has these bytes, which are so many requests, and gives what was answered.
-fn served<R: Abort + Wait>(
+pub(crate) fn served<R: Abort + Wait>(
     rt: &R,
     alloc: Global,
     office: &Office,

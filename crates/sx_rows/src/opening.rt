@@ -11,8 +11,11 @@ use sx_key::Account;
 /// A clock, random words and the account of the requests.
 #[derive(Drop)]
 pub(crate) struct Outside {
+    /// The clock of both doors.
     pub clock: StepClock,
+    /// The random words of the REST door.
     pub random: StepWords,
+    /// The account under whose key requests are signed.
     pub account: Account,
 }
 
