@@ -1,0 +1,53 @@
+//! An office without shares, the outside of its doors, and its close.
+ghost use Rattle.std.specs.Prelude.{◌≡◌};
+
+use std::alloc::Global;
+use std::process::Abort;
+use std::sync::Wait;
+use sx_base::{StepClock, StepWords};
+use sx_book::{Book, Office, Pass};
+use sx_key::Account;
+
+/// A clock, random words and the account of the requests.
+#[derive(Drop)]
+pub(crate) struct Outside {
+    /// The clock of both doors.
+    pub clock: StepClock,
+    /// The random words of the REST door.
+    pub random: StepWords,
+    /// The account under whose key requests are signed.
+    pub account: Account,
+}
+
+/// The outside from 2022-01-01T00:00:00Z on, whose clock goes on by this step each time that it is asked.
+pub(crate) fn outside(rt: &impl Abort, alloc: Global, step: u64) -> Outside {
+    match Account::read(alloc, b"acct", b"a2V5") {
+        Ok(account) => Outside {
+            clock: StepClock {
+                at: 16_409_952_000_000_000,
+                step,
+            },
+            random: StepWords { at: 0 },
+            account,
+        },
+        Err(_) => panic!(rt; "no account"),
+    }
+}
+
+pub(crate) fn begun(rt: &impl Abort, alloc: Global) -> (Office, Pass)
+    ensures { result.1.office ≡ result.0 }
+{
+    match Office::begin(alloc, 1_000_000) {
+        Ok(made) => made,
+        Err(_) => panic!(rt; "no memory"),
+    }
+}
+
+pub(crate) fn closed<R: Abort + Wait>(rt: &R, office: Office, pass: Pass) -> Book
+    requires { pass.office ≡ office }
+{
+    match office.close(rt, pass) {
+        Ok(book) => book,
+        Err(fault) => panic!(rt; "{} out", Office::abandon(fault)),
+    }
+}

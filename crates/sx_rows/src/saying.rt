@@ -1,0 +1,220 @@
+//! Lines of sessions: asked of an office one by one, or said to the session's door, and their answers.
+ghost use Rattle.std.specs.Prelude.{◌≡◌, true};
+ghost use Rattle.sx_book.specs.Passes.{HoldsSession, IsSamePass, KeepsSessions};
+ghost use Rattle.sx_call.specs.Calls.{door_of};
+ghost use Rattle.sx_call.specs.declared.doors.Door.TheVariants.{InSession};
+ghost use Rattle.sx_lines.specs.Answers.{has_line};
+
+use crate::asking::{link, put, same};
+use crate::opening::Outside;
+use std::alloc::Global;
+use std::process::Abort;
+use std::sync::Wait;
+use sx_base::{Clock, MemLink, MemSink};
+use sx_book::{ConnEnd, ConnReport, Office, Pass, Receipt, Session};
+use sx_call::{Call, Door, Reply};
+use sx_lines::{Line, LineAnswer, call_of_line, print_line};
+use sx_reply::word_of;
+use sx_smb_door::serve_session;
+
+/// A line and its answer, both without their line feeds.
+#[derive(Clone, Copy)]
+pub(crate) struct Said {
+    /// The line.
+    pub says: &'static str,
+    /// Its answer.
+    pub told: &'static str,
+}
+
+/// Starts a session of the peer 127.0.0.1.
+pub(crate) fn started<R: Abort + Wait>(
+    rt: &R,
+    office: &Office,
+    pass: &mut Pass,
+    outside: &mut Outside,
+) -> Session
+    requires own { pass.old.office ≡ office.now }
+    ensures new { HoldsSession pass.new result }
+    ensures held { KeepsSessions pass.old pass.new }
+    ensures same { IsSamePass pass.old pass.new }
+{
+    let now = outside.clock.now();
+    match office.start(rt, pass, now, 2_130_706_433) {
+        Ok((session, _)) => session,
+        Err(_) => panic!(rt; "no session"),
+    }
+}
+
+/// The call that a line spells.
+fn call_of(rt: &impl Abort, alloc: Global, line: &str) -> Call
+    ensures { door_of result ≡ InSession }
+{
+    match call_of_line(alloc, line.as_bytes()) {
+        Ok(Line::Ask(call)) => {
+            assert!(rt; call.door() == Door::InSession);
+            call
+        }
+        Ok(Line::Quit) => panic!(rt; "a farewell"),
+        Err(_) => panic!(rt; "{line} is no call"),
+    }
+}
+
+/// Whether a session's answer can print the reply.
+fn is_line(reply: &Reply) -> bool
+    ensures { result ≡ true → has_line reply.now ≡ true }
+{
+    match reply {
+        Reply::Smb(_) => true,
+        Reply::Refused(refusal) => !word_of(refusal).is_empty(),
+        _ => false,
+    }
+}
+
+/// The reply as the session's door prints it.
+fn printed(rt: &impl Abort, alloc: Global, receipt: Receipt, locking: bool) -> MemSink {
+    assert!(rt; is_line(&receipt.reply));
+    let mut sink = MemSink::new(alloc, Vec::new(alloc));
+    let answer = LineAnswer::Core {
+        place: receipt.place,
+        reply: receipt.reply,
+        locking,
+    };
+    match print_line(&mut sink, &answer) {
+        Ok(()) => sink,
+        Err(_) => panic!(rt; "no memory"),
+    }
+}
+
+/// The answers of the first lines of a table, so many of them.
+pub(crate) fn told(rt: &impl Abort, alloc: Global, table: &[Said], count: usize) -> Vec<u8> {
+    let mut text = Vec::new(alloc);
+    for line in table.iter().take(count) {
+        put(rt, &mut text, line.told.as_bytes());
+        put(rt, &mut text, b"\n");
+    }
+    text
+}
+
+/// The lines of a table.
+pub(crate) fn lines(rt: &impl Abort, alloc: Global, table: &[Said]) -> Vec<u8> {
+    let mut text = Vec::new(alloc);
+    for line in table.iter() {
+        put(rt, &mut text, line.says.as_bytes());
+        put(rt, &mut text, b"\n");
+    }
+    text
+}
+
+fn check(rt: &impl Abort, alloc: Global, line: &Said, receipt: Receipt, locking: bool) {
+    let sink = printed(rt, alloc, receipt, locking);
+    let mut wanted = Vec::new(alloc);
+    put(rt, &mut wanted, line.told.as_bytes());
+    put(rt, &mut wanted, b"\n");
+    same(rt, line.says, sink.bytes(), &wanted);
+}
+
+/// Asks the call of one line.
+fn say<R: Abort + Wait>(
+    rt: &R,
+    alloc: Global,
+    office: &Office,
+    pass: &mut Pass,
+    outside: &mut Outside,
+    session: &Session,
+    line: &Said,
+)
+    requires own { pass.old.office ≡ office.now }
+    requires mine { HoldsSession pass.old session.now }
+    ensures held { KeepsSessions pass.old pass.new }
+    ensures same { IsSamePass pass.old pass.new }
+{
+    let call = call_of(rt, alloc, line.says);
+    let locking = matches!(&call, Call::SmbLock(_));
+    let now = outside.clock.now();
+    match office.ask(rt, pass, now, 0, Some(session), call) {
+        Ok(receipt) => check(rt, alloc, line, receipt, locking),
+        Err(_) => panic!(rt; "no place"),
+    }
+}
+
+/// Asks the calls of the lines in a session that stays live, one after another.
+pub(crate) fn says<R: Abort + Wait>(
+    rt: &R,
+    alloc: Global,
+    office: &Office,
+    pass: &mut Pass,
+    outside: &mut Outside,
+    session: &Session,
+    table: &[Said],
+)
+    requires own { pass.old.office ≡ office.now }
+    requires mine { HoldsSession pass.old session.now }
+    ensures held { KeepsSessions pass.old pass.new }
+    ensures same { IsSamePass pass.old pass.new }
+{
+    for line in table.iter() {
+        say(rt, alloc, office, pass, outside, session, line);
+    }
+}
+
+/// Serves a session of its own over a link.
+pub(crate) fn served<R: Abort + Wait>(
+    rt: &R,
+    alloc: Global,
+    office: &Office,
+    pass: &mut Pass,
+    outside: &mut Outside,
+    link: &mut MemLink,
+) -> ConnReport
+    requires own { pass.old.office ≡ office.now }
+    ensures held { KeepsSessions pass.old pass.new }
+    ensures same { IsSamePass pass.old pass.new }
+{
+    serve_session(
+        alloc,
+        rt,
+        office,
+        pass,
+        link,
+        &mut outside.clock,
+        1_099_511_627_776,
+    )
+}
+
+/// Says the lines to the session's door, from the session's start to its end.
+pub(crate) fn talks<R: Abort + Wait>(
+    rt: &R,
+    alloc: Global,
+    office: &Office,
+    pass: &mut Pass,
+    outside: &mut Outside,
+    table: &[Said],
+)
+    requires own { pass.old.office ≡ office.now }
+    ensures held { KeepsSessions pass.old pass.new }
+    ensures same { IsSamePass pass.old pass.new }
+{
+    let mut link = link(alloc, lines(rt, alloc, table));
+    let report = served(rt, alloc, office, pass, outside, &mut link);
+    let wanted = told(rt, alloc, table, table.len());
+    same(rt, "the session", link.sink.bytes(), &wanted);
+    assert!(rt; report.end == ConnEnd::Ended);
+}
+
+/// Ends a session.
+pub(crate) fn ended<R: Abort + Wait>(
+    rt: &R,
+    office: &Office,
+    pass: &mut Pass,
+    outside: &mut Outside,
+    session: Session,
+)
+    requires own { pass.old.office ≡ office.now }
+    requires mine { HoldsSession pass.old session }
+    ensures same { IsSamePass pass.old pass.new }
+{
+    let now = outside.clock.now();
+    let_go(office.end_session(rt, pass, now, session));
+}
+
+fn let_go<T: Drop>(_value: T) {}
