@@ -136,7 +136,8 @@ def measured(program, kind, size):
 
 def main():
     program = os.path.abspath(sys.argv[1])
-    print(f"load {os.getloadavg()[0]:.1f}, {os.cpu_count()} processors; microseconds of the clock (of processors) a call")
+    print(f"load {os.getloadavg()[0]:.1f}, {os.cpu_count()} processors")
+    print("microseconds of the clock (of processors) a call, at either size")
     kinds = [
         (files, "files of one directory", 10_000, 100_000),
         (opens, "opens of one file", 200, 2_000),

@@ -1,8 +1,8 @@
 #!/bin/sh
-# Times calls of `serve` of the built program over accounts of two sizes, tenfold apart: files of one directory, opens of one
-# file, locks of one file, snapshots of one share. For each it prints the microseconds of a call, sent in one stream over
-# one connection, and the processor time of the service for it; a time that doesn't depend on the size is about the same in
-# both columns. It stands outside the gate.
+# Times calls of `serve` of the built program over accounts of two sizes, tenfold apart: files of one directory,
+# opens of one file, locks of one file, snapshots of one share. For each it prints the microseconds of a call, sent
+# in one stream over one connection, and the processor time of the service for it; a time that doesn't depend on the
+# size is about the same in both columns. It stands outside the gate.
 #
 # usage: bench/office.sh [PROGRAM]   (the program that `rt run sharebox` leaves, if none is given)
 cd "$(dirname "$0")/.." || exit 1
