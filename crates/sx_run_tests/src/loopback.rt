@@ -59,11 +59,11 @@ where
     );
 }
 
-/// What a client sends at both doors, so many bytes of 7 behind the first, and how the answers begin and end.
+/// What a client sends at both doors, so many pieces of a body behind the first, and how the answers begin and end.
 #[derive(Clone, Copy)]
 struct Client {
     requests: &'static [u8],
-    more: usize,
+    pieces: u32,
     begins: &'static [u8],
     ends: &'static [u8],
     lines: &'static [u8],
@@ -77,14 +77,11 @@ fn dialed<R: Abort, D: Dialer>(rt: &R, dialer: &mut D, port: u16) -> D::Link {
     }
 }
 
-/// Sends so many bytes of 7.
-fn send_more<R: Abort, K: Sink>(rt: &R, link: &mut K, count: usize) {
+/// Sends so many pieces of 4,096 bytes of 7.
+fn send_more<R: Abort, K: Sink>(rt: &R, link: &mut K, pieces: u32) {
     let piece = [7u8; 4096];
-    let mut left = count;
-    while left > 0 {
-        let now = left.min(4096);
-        assert_eq!(rt; link.put(&piece[..now]), Ok(()));
-        left -= now;
+    for _ in 0..pieces {
+        assert_eq!(rt; link.put(&piece), Ok(()));
     }
 }
 
@@ -102,18 +99,18 @@ fn read_all<R: Abort, S: Source>(rt: &R, alloc: Global, link: &mut S) -> Vec<u8>
     panic!(rt; "an answer without an end")
 }
 
-/// Sends a text and more bytes, and gives the answer.
+/// Sends a text and pieces of a body, and gives the answer.
 fn asked<R: Abort, D: Dialer>(
     rt: &R,
     alloc: Global,
     dialer: &mut D,
     port: u16,
     text: &[u8],
-    more: usize,
+    pieces: u32,
 ) -> Vec<u8> {
     let mut link = dialed(rt, dialer, port);
     assert_eq!(rt; link.put(text), Ok(()));
-    send_more(rt, &mut link, more);
+    send_more(rt, &mut link, pieces);
     read_all(rt, alloc, &mut link)
 }
 
@@ -126,7 +123,7 @@ fn ask_both<R: Abort, D: Dialer>(
     dialer: &mut D,
 ) {
     let pair = ports.told(rt);
-    let answer = asked(rt, alloc, dialer, pair.rest, client.requests, client.more);
+    let answer = asked(rt, alloc, dialer, pair.rest, client.requests, client.pieces);
     assert!(rt; answer.starts_with(client.begins));
     assert!(rt; answer.ends_with(client.ends));
     let answers = asked(rt, alloc, dialer, pair.smb, client.lines, 0);
@@ -164,7 +161,7 @@ fn clients_of_both_doors_are_served(rt: HostRuntime) {
     };
     let client = Client {
         requests: FILE_REQUESTS,
-        more: 0,
+        pieces: 0,
         begins: b"HTTP/1.1 201 Created\r\nx-ms-request-id: 00000000-0000-0000-0000-000000000001\r\n",
         ends: b"\r\nContent-Length: 4\r\nConnection: close\r\n\r\nold!",
         lines: b"open data a.txt r rwd existing file\nread 1 0 4\nquit\n",
@@ -184,7 +181,7 @@ fn a_refusal_is_read_behind_a_body_that_still_comes(rt: HostRuntime) {
     };
     let client = Client {
         requests: LONG_HEAD,
-        more: 262_144,
+        pieces: 64,
         begins: LONG_ANSWER,
         ends: LONG_ANSWER,
         lines: b"quit\n",
