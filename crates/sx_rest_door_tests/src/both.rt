@@ -63,8 +63,10 @@ fn run_pair<R: Abort + Threads + Wait + Sync>(
     connection: &mut Lane,
     session: &mut Lane,
 )
-    requires own { (connection.old.pass.office ≡ office.now) × (session.old.pass.office ≡ office.now) }
-    ensures same { (connection.new.pass.office ≡ office.now) × (session.new.pass.office ≡ office.now) }
+    requires connection { connection.old.pass.office ≡ office.now }
+    requires session { session.old.pass.office ≡ office.now }
+    ensures connection { connection.new.pass.office ≡ office.now }
+    ensures session { session.new.pass.office ≡ office.now }
 {
     join_mut(
         rt,
@@ -82,15 +84,19 @@ fn run_lanes<R: Abort + Threads + Wait + Sync>(
     second: &mut Lane,
     session: &mut Lane,
 )
-    requires connections { (first.old.pass.office ≡ office.now) × (second.old.pass.office ≡ office.now) }
+    requires first { first.old.pass.office ≡ office.now }
+    requires second { second.old.pass.office ≡ office.now }
     requires session { session.old.pass.office ≡ office.now }
-    ensures connections { (first.new.pass.office ≡ office.now) × (second.new.pass.office ≡ office.now) }
+    ensures first { first.new.pass.office ≡ office.now }
+    ensures second { second.new.pass.office ≡ office.now }
     ensures session { session.new.pass.office ≡ office.now }
 {
     join_mut(
         rt,
         &mut || run_lane(rt, alloc, office, first),
-        &mut || run_pair(rt, alloc, office, second, session),
+        &mut ||
+            requires { (second.now.pass.office ≡ office.now) × (session.now.pass.office ≡ office.now) }
+        { run_pair(rt, alloc, office, second, session) },
     );
 }
 
