@@ -1,7 +1,7 @@
 //! The calls on directories, each in the state that the calls before it left.
 
 use crate::asking::{Ask, asks};
-use crate::opening::{begun, closed, new_year};
+use crate::opening::{begun, closes, new_year};
 
 /// A directory from its making on, with what is made and removed in it.
 const DIRECTORIES: [Ask; 20] = [
@@ -259,8 +259,5 @@ fn the_calls_on_directories(rt: HostRuntime) {
     let mut outside = new_year(&rt, alloc, 10_000_000);
     let (office, mut pass) = begun(&rt, alloc);
     asks(&rt, alloc, &office, &mut pass, &mut outside, &DIRECTORIES);
-    assert_eq!(rt;
-        closed(&rt, office, pass).entries().len(),
-        DIRECTORIES.len()
-    );
+    closes(&rt, office, pass, DIRECTORIES.len());
 }

@@ -1,7 +1,7 @@
 //! Handles, listed and closed by requests.
 
 use crate::asking::{Ask, asks};
-use crate::opening::{begun, closed, new_year};
+use crate::opening::{begun, closes, new_year};
 use crate::saying::{Said, ended, says, started};
 
 /// A share and a directory.
@@ -226,7 +226,7 @@ fn the_calls_on_handles(rt: HostRuntime) {
         &NOT_THERE,
     );
     ended(&rt, &office, &mut pass, &mut outside, session);
-    assert_eq!(rt; closed(&rt, office, pass).entries().len(), 16);
+    closes(&rt, office, pass, 16);
 }
 
 #[test]
@@ -256,5 +256,5 @@ fn one_handle_is_listed_and_closed(rt: HostRuntime) {
         &NO_OPEN,
     );
     ended(&rt, &office, &mut pass, &mut outside, session);
-    assert_eq!(rt; closed(&rt, office, pass).entries().len(), 8);
+    closes(&rt, office, pass, 8);
 }

@@ -1,7 +1,7 @@
 //! A file's lease, and the opens that meet it.
 
 use crate::asking::{Ask, asks};
-use crate::opening::{begun, closed, new_year};
+use crate::opening::{begun, closes, new_year};
 use crate::saying::{Said, ended, says, started};
 
 /// A file with a lease, written without its id, with another and with its own.
@@ -151,5 +151,5 @@ fn a_lease_and_an_open_that_writes(rt: HostRuntime) {
     );
     asks(&rt, alloc, &office, &mut pass, &mut outside, &REFUSED);
     ended(&rt, &office, &mut pass, &mut outside, session);
-    assert_eq!(rt; closed(&rt, office, pass).entries().len(), 12);
+    closes(&rt, office, pass, 12);
 }

@@ -1,7 +1,7 @@
 //! Locks and pending nodes, and the requests that meet them.
 
 use crate::asking::{Ask, asks};
-use crate::opening::{begun, closed, new_year};
+use crate::opening::{begun, closes, new_year};
 use crate::saying::{Said, ended, says, started, talks};
 
 /// The share.
@@ -256,7 +256,7 @@ fn requests_by_a_lock(rt: HostRuntime) {
     );
     asks(&rt, alloc, &office, &mut pass, &mut outside, &BY_THE_LOCK);
     ended(&rt, &office, &mut pass, &mut outside, session);
-    assert_eq!(rt; closed(&rt, office, pass).entries().len(), 12);
+    closes(&rt, office, pass, 12);
 }
 
 #[test]
@@ -266,7 +266,7 @@ fn the_holders_own_shared_lock(rt: HostRuntime) {
     let (office, mut pass) = begun(&rt, alloc);
     asks(&rt, alloc, &office, &mut pass, &mut outside, &SHARE);
     talks(&rt, alloc, &office, &mut pass, &mut outside, &OWN_LOCK);
-    assert_eq!(rt; closed(&rt, office, pass).entries().len(), 9);
+    closes(&rt, office, pass, 9);
 }
 
 #[test]
@@ -297,7 +297,7 @@ fn a_pending_file_goes_with_its_last_open(rt: HostRuntime) {
     );
     asks(&rt, alloc, &office, &mut pass, &mut outside, &ANEW);
     ended(&rt, &office, &mut pass, &mut outside, session);
-    assert_eq!(rt; closed(&rt, office, pass).entries().len(), 10);
+    closes(&rt, office, pass, 10);
 }
 
 #[test]
@@ -328,5 +328,5 @@ fn a_directory_with_a_file_ignores_its_mark(rt: HostRuntime) {
     );
     asks(&rt, alloc, &office, &mut pass, &mut outside, &STILL_THERE);
     ended(&rt, &office, &mut pass, &mut outside, session);
-    assert_eq!(rt; closed(&rt, office, pass).entries().len(), 7);
+    closes(&rt, office, pass, 7);
 }

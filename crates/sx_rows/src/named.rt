@@ -1,7 +1,7 @@
 //! Names, pages of names, and files in directories.
 
 use crate::asking::{Ask, asks};
-use crate::opening::{begun, closed, new_year};
+use crate::opening::{begun, closes, new_year};
 
 /// Names are compared by their folding, and a broken rule is told with its place.
 const FOLDED: [Ask; 14] = [
@@ -379,7 +379,7 @@ fn names_are_compared_by_their_folding(rt: HostRuntime) {
     let mut outside = new_year(&rt, alloc, 0);
     let (office, mut pass) = begun(&rt, alloc);
     asks(&rt, alloc, &office, &mut pass, &mut outside, &FOLDED);
-    assert_eq!(rt; closed(&rt, office, pass).entries().len(), 4);
+    closes(&rt, office, pass, 4);
 }
 
 #[test]
@@ -388,7 +388,7 @@ fn a_page_of_names(rt: HostRuntime) {
     let mut outside = new_year(&rt, alloc, 0);
     let (office, mut pass) = begun(&rt, alloc);
     asks(&rt, alloc, &office, &mut pass, &mut outside, &PAGES);
-    assert_eq!(rt; closed(&rt, office, pass).entries().len(), 6);
+    closes(&rt, office, pass, 6);
 }
 
 #[test]
@@ -397,5 +397,5 @@ fn a_read_only_file_in_a_directory(rt: HostRuntime) {
     let mut outside = new_year(&rt, alloc, 10_000_000);
     let (office, mut pass) = begun(&rt, alloc);
     asks(&rt, alloc, &office, &mut pass, &mut outside, &READ_ONLY);
-    assert_eq!(rt; closed(&rt, office, pass).entries().len(), 9);
+    closes(&rt, office, pass, 9);
 }

@@ -43,7 +43,7 @@ pub(crate) fn begun(rt: &impl Abort, alloc: Global) -> (Office, Pass)
     }
 }
 
-pub(crate) fn closed<R: Abort + Wait>(rt: &R, office: Office, pass: Pass) -> Book
+fn closed<R: Abort + Wait>(rt: &R, office: Office, pass: Pass) -> Book
     requires { pass.office ≡ office }
 {
     match office.close(rt, pass) {
@@ -51,3 +51,14 @@ pub(crate) fn closed<R: Abort + Wait>(rt: &R, office: Office, pass: Pass) -> Boo
         Err(fault) => panic!(rt; "{} out", Office::abandon(fault)),
     }
 }
+
+/// Closes the office, whose history has so many entries.
+pub(crate) fn closes<R: Abort + Wait>(rt: &R, office: Office, pass: Pass, entries: usize)
+    requires { pass.office ≡ office }
+{
+    let book = closed(rt, office, pass);
+    assert!(rt; book.entries().len() == entries);
+    let_go(book);
+}
+
+pub(crate) fn let_go<T: Drop>(_value: T) {}

@@ -1,8 +1,14 @@
 //! Opens, and the requests that meet them.
+ghost use Rattle.std.specs.Prelude.{◌≡◌};
+ghost use Rattle.sx_book.specs.Passes.{IsSamePass};
 
 use crate::asking::{Ask, asks};
-use crate::opening::{begun, closed, new_year};
+use crate::opening::{Outside, begun, closes, new_year};
 use crate::saying::{Said, ended, says, started, talks};
+use std::alloc::Global;
+use std::process::Abort;
+use std::sync::Wait;
+use sx_book::{Office, Pass};
 
 /// The share.
 const SHARE: [Ask; 1] = [Ask {
@@ -151,35 +157,43 @@ const READ_BEHIND: [Ask; 1] = [Ask {
     says: "hi",
 }];
 
+/// Two sessions are started, each says its lines, and both end.
+fn both_say<R: Abort + Wait>(
+    rt: &R,
+    alloc: Global,
+    office: &Office,
+    pass: &mut Pass,
+    outside: &mut Outside,
+    first_says: &[Said],
+    second_says: &[Said],
+)
+    requires own { pass.old.office ≡ office.now }
+    ensures same { IsSamePass pass.old pass.new }
+{
+    let first = started(rt, office, pass, outside);
+    let second = started(rt, office, pass, outside);
+    says(rt, alloc, office, pass, outside, &first, first_says);
+    says(rt, alloc, office, pass, outside, &second, second_says);
+    ended(rt, office, pass, outside, second);
+    ended(rt, office, pass, outside, first);
+}
+
 #[test]
 fn two_opens_that_share(rt: HostRuntime) {
     let alloc = rt.alloc();
     let mut outside = new_year(&rt, alloc, 0);
     let (office, mut pass) = begun(&rt, alloc);
     asks(&rt, alloc, &office, &mut pass, &mut outside, &SHARE);
-    let first = started(&rt, &office, &mut pass, &mut outside);
-    let second = started(&rt, &office, &mut pass, &mut outside);
-    says(
+    both_say(
         &rt,
         alloc,
         &office,
         &mut pass,
         &mut outside,
-        &first,
         &FIRST_OPEN,
-    );
-    says(
-        &rt,
-        alloc,
-        &office,
-        &mut pass,
-        &mut outside,
-        &second,
         &SECOND_OPEN,
     );
-    ended(&rt, &office, &mut pass, &mut outside, second);
-    ended(&rt, &office, &mut pass, &mut outside, first);
-    assert_eq!(rt; closed(&rt, office, pass).entries().len(), 7);
+    closes(&rt, office, pass, 7);
 }
 
 #[test]
@@ -188,29 +202,16 @@ fn two_opens_that_clash(rt: HostRuntime) {
     let mut outside = new_year(&rt, alloc, 0);
     let (office, mut pass) = begun(&rt, alloc);
     asks(&rt, alloc, &office, &mut pass, &mut outside, &SHARE);
-    let first = started(&rt, &office, &mut pass, &mut outside);
-    let second = started(&rt, &office, &mut pass, &mut outside);
-    says(
+    both_say(
         &rt,
         alloc,
         &office,
         &mut pass,
         &mut outside,
-        &first,
         &FIRST_OPEN,
-    );
-    says(
-        &rt,
-        alloc,
-        &office,
-        &mut pass,
-        &mut outside,
-        &second,
         &CLASHING_OPEN,
     );
-    ended(&rt, &office, &mut pass, &mut outside, second);
-    ended(&rt, &office, &mut pass, &mut outside, first);
-    assert_eq!(rt; closed(&rt, office, pass).entries().len(), 7);
+    closes(&rt, office, pass, 7);
 }
 
 #[test]
@@ -238,7 +239,7 @@ fn an_open_that_shares_no_reading(rt: HostRuntime) {
         &SHARES_NO_READING,
     );
     ended(&rt, &office, &mut pass, &mut outside, session);
-    assert_eq!(rt; closed(&rt, office, pass).entries().len(), 6);
+    closes(&rt, office, pass, 6);
 }
 
 #[test]
@@ -276,7 +277,7 @@ fn an_open_without_access(rt: HostRuntime) {
     );
     asks(&rt, alloc, &office, &mut pass, &mut outside, &DELETED);
     ended(&rt, &office, &mut pass, &mut outside, session);
-    assert_eq!(rt; closed(&rt, office, pass).entries().len(), 9);
+    closes(&rt, office, pass, 9);
 }
 
 #[test]
@@ -287,5 +288,5 @@ fn a_session_and_then_a_request(rt: HostRuntime) {
     asks(&rt, alloc, &office, &mut pass, &mut outside, &SHARE);
     talks(&rt, alloc, &office, &mut pass, &mut outside, &WRITTEN);
     asks(&rt, alloc, &office, &mut pass, &mut outside, &READ_BEHIND);
-    assert_eq!(rt; closed(&rt, office, pass).entries().len(), 6);
+    closes(&rt, office, pass, 6);
 }

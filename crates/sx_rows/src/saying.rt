@@ -1,12 +1,12 @@
 //! Lines of sessions: asked of an office one by one, or said to the session's door, and their answers.
-ghost use Rattle.std.specs.Prelude.{◌≡◌, true};
-ghost use Rattle.sx_book.specs.Passes.{HoldsSession, IsSamePass, KeepsSessions};
+ghost use Rattle.std.specs.Prelude.{◌≡◌, ◌≢◌, ℕ};
+ghost use Rattle.sx_book.specs.Passes.{HoldsSession, IsSamePass, KeepsOtherSessions, KeepsSessions};
 ghost use Rattle.sx_call.specs.Calls.{door_of};
 ghost use Rattle.sx_call.specs.declared.doors.Door.TheVariants.{InSession};
 ghost use Rattle.sx_lines.specs.Answers.{has_line};
 
 use crate::asking::{link, put, same};
-use crate::opening::Outside;
+use crate::opening::{Outside, let_go};
 use std::alloc::Global;
 use std::process::Abort;
 use std::sync::Wait;
@@ -35,6 +35,7 @@ pub(crate) fn started<R: Abort + Wait>(
 ) -> Session
     requires own { pass.old.office ≡ office.now }
     ensures new { HoldsSession pass.new result }
+    ensures other { (s : ℕ) → HoldsSession pass.old s → s ≢ result }
     ensures held { KeepsSessions pass.old pass.new }
     ensures same { IsSamePass pass.old pass.new }
 {
@@ -61,11 +62,11 @@ fn call_of(rt: &impl Abort, alloc: Global, line: &str) -> Call
 
 /// Whether a session's answer can print the reply.
 fn is_line(reply: &Reply) -> bool
-    ensures { result ≡ true → has_line reply.now ≡ true }
+    ensures { result ≡ has_line reply.now }
 {
     match reply {
         Reply::Smb(_) => true,
-        Reply::Refused(refusal) => !word_of(refusal).is_empty(),
+        Reply::Refused(refusal) => word_of(refusal).len() > 0,
         _ => false,
     }
 }
@@ -211,10 +212,9 @@ pub(crate) fn ended<R: Abort + Wait>(
 )
     requires own { pass.old.office ≡ office.now }
     requires mine { HoldsSession pass.old session }
+    ensures others { KeepsOtherSessions session pass.old pass.new }
     ensures same { IsSamePass pass.old pass.new }
 {
     let now = outside.clock.now();
     let_go(office.end_session(rt, pass, now, session));
 }
-
-fn let_go<T: Drop>(_value: T) {}

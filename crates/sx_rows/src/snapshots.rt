@@ -1,7 +1,7 @@
 //! Snapshots read as the share then stood.
 
 use crate::asking::{Ask, asks};
-use crate::opening::{begun, closed, new_year};
+use crate::opening::{begun, closes, new_year};
 
 /// A file that is written again, emptied and deleted behind a snapshot.
 const STOOD: [Ask; 12] = [
@@ -390,7 +390,7 @@ fn a_snapshot_keeps_what_stood(rt: HostRuntime) {
     let mut outside = new_year(&rt, alloc, 0);
     let (office, mut pass) = begun(&rt, alloc);
     asks(&rt, alloc, &office, &mut pass, &mut outside, &STOOD);
-    assert_eq!(rt; closed(&rt, office, pass).entries().len(), 12);
+    closes(&rt, office, pass, 12);
 }
 
 #[test]
@@ -399,7 +399,7 @@ fn a_moment_is_given_once(rt: HostRuntime) {
     let mut outside = new_year(&rt, alloc, 0);
     let (office, mut pass) = begun(&rt, alloc);
     asks(&rt, alloc, &office, &mut pass, &mut outside, &TICKS);
-    assert_eq!(rt; closed(&rt, office, pass).entries().len(), 5);
+    closes(&rt, office, pass, 5);
 }
 
 #[test]
@@ -408,5 +408,5 @@ fn each_reading_call_reads_a_snapshot(rt: HostRuntime) {
     let mut outside = new_year(&rt, alloc, 10_000_000);
     let (office, mut pass) = begun(&rt, alloc);
     asks(&rt, alloc, &office, &mut pass, &mut outside, &AS_IT_STOOD);
-    assert_eq!(rt; closed(&rt, office, pass).entries().len(), 14);
+    closes(&rt, office, pass, 14);
 }
