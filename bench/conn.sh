@@ -1,8 +1,9 @@
 #!/bin/sh
-# Feeds streams of signed requests, one behind another, to `conn` of the built program: small ones (by turns Put Range and
-# Get File of 64 bytes), Create Files of one directory, and big ones (by turns Put Range and Get File of 4 MiB), each at two
-# sizes. It prints the requests and the MiB of bodies for each second of processor time and of the clock; the two sizes
-# should have about the same. It stands outside the gate. Bodies stand in memory: 1 GiB at the default sizes.
+# Feeds streams of signed requests, one behind another, to `conn` of the built program: small ones (by turns Put
+# Range and Get File of 64 bytes), Create Files of one directory, and big ones (by turns Put Range and Get File of 4
+# MiB), each at two sizes. It prints the requests and the MiB of bodies for each second of processor time and of the
+# clock; the two sizes should have about the same. It stands outside the gate. Bodies stand in memory: 1 GiB at the
+# default sizes.
 #
 # usage: bench/conn.sh [PROGRAM]   (the program that `rt run sharebox` leaves, if none is given)
 cd "$(dirname "$0")/.." || exit 1

@@ -10,8 +10,8 @@ KIND is
   bulk    by turns Put Range of 4 MiB and Get File of 4 MiB, of 4 files
   creates Create File, each of a new one in one directory
 
-The account is `acct` and its key `a2V5`. All requests are dated OFFSET seconds from now (0 if none is given); they pass
-for 15 minutes. Nothing but Python's own library is used.
+The account is `acct` and its key `a2V5`. All requests are dated OFFSET seconds from now (0 if none is
+given); they pass for 15 minutes. Nothing but Python's own library is used.
 """
 
 import base64

@@ -9,6 +9,7 @@ to `conn`, or over several connections at once to `serve`. What is answered is j
 is printed, with the file of the input that shows it. It stands outside the gate.
 """
 
+import signal
 import socket
 import subprocess
 import sys
@@ -138,30 +139,51 @@ def show(faults, given, seed, number):
     print(f"round {number}: {len(faults)} faults; the input is {path}", flush=True)
 
 
-def main():
-    """Does all rounds, and prints the counts."""
-    seed, rounds = sys.argv[1], int(sys.argv[2])
-    program = sys.argv[3] if len(sys.argv) > 3 else str(ROOT / "crates/sharebox/out/sharebox")
-    service, total, wrong, answered = None, 0, 0, 0
-    for number in range(rounds):
-        making = Requests(f"{seed}-{number}")
+class Feeding:
+    """The rounds so far."""
+
+    def __init__(self, seed, program):
+        self.seed, self.program, self.service = seed, program, None
+        self.rounds, self.fed, self.answered, self.wrong = 0, 0, 0, 0
+
+    def round(self):
+        """One round."""
+        making = Requests(f"{self.seed}-{self.rounds}")
         door = making.of(["session", "conn", "serve"])
         if door == "serve":
-            service = service or Service(program)
-            found = service.round(making)
+            self.service = self.service or Service(self.program)
+            found = self.service.round(making)
         else:
             given = Input(making, door)
-            found = [(given, *piped(program, given))]
+            found = [(given, *piped(self.program, given))]
         for given, answers, status in found:
             told = status if isinstance(status, int) else None
             faults = given.faults(answers, told, door != "serve") + ([status] if isinstance(status, str) else [])
-            total, answered, wrong = total + len(given.text), answered + len(answers), wrong + bool(faults)
+            self.fed, self.answered = self.fed + len(given.text), self.answered + len(answers)
             if faults:
-                show(faults, given, seed, number)
-    if service:
-        service.process.kill()
-    print(f"seed {seed}: {rounds} rounds, {total} bytes fed, {answered} bytes answered, {wrong} inputs with faults")
-    return 1 if wrong else 0
+                self.wrong += 1
+                show(faults, given, self.seed, self.rounds)
+        self.rounds += 1
+
+    def end(self):
+        """Ends the service, and prints the counts."""
+        if self.service:
+            self.service.process.kill()
+        print(f"seed {self.seed}: {self.rounds} rounds, {self.fed} bytes fed, {self.answered} bytes answered,"
+              f" {self.wrong} inputs with faults", flush=True)
+
+
+def main():
+    """Does all rounds, or those before it is ended, and prints the counts."""
+    program = sys.argv[3] if len(sys.argv) > 3 else str(ROOT / "crates/sharebox/out/sharebox")
+    feeding = Feeding(sys.argv[1], program)
+    signal.signal(signal.SIGTERM, lambda *_: sys.exit(2))
+    try:
+        for _ in range(int(sys.argv[2])):
+            feeding.round()
+    finally:
+        feeding.end()
+    return 1 if feeding.wrong else 0
 
 
 if __name__ == "__main__":

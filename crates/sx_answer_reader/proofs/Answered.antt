@@ -1,9 +1,8 @@
 -- What is read of a line is the one answer that has it, or no answer has it.
-use Rattle.std.proofs.Common.{◌≡◌, ℕ, List, Option, Some, None, Result, Ok, Err, sym, ap, ◌∙◌}
+use Rattle.std.proofs.Common.{◌≡◌, ℕ, List, Some, None, Result, Ok, Err, sym, ap, ◌∙◌}
 use Rattle.sx_answer_reader.specs.declared.answer.Answer.{Answer}
 use Rattle.sx_answer_reader.specs.declared.answer.Unread.{Unread}
 use Rattle.sx_answer_reader.specs.declared.answer.Unread.TheVariants.{NoAnswer}
-use Rattle.sx_answer_reader.specs.Answers.{told_line, Fits}
 use Rattle.sx_answer_reader.specs.Reading.{Reads, IsRead}
 use Rattle.sx_answer_reader.specs.Grammar.{answer_of}
 use Rattle.sx_answer_reader.proofs.WrittenFields.{some_is}

@@ -23,7 +23,7 @@ use Rattle.sx_reply.specs.Refusals.{row_of, message_of}
 use Rattle.sx_lines.specs.Answers.{answer_line, reply_line, smb_line, stop_line, refusal_word, refusal_line}
 use Rattle.sx_answer_reader.specs.declared.answer.Answer.TheVariants.{Done, Refused, Stop}
 use Rattle.sx_answer_reader.specs.Refusals.{reason_word, handle_text, message_words}
-use Rattle.sx_answer_reader.specs.Answers.{told_words, stop_words, words_of, told_line}
+use Rattle.sx_answer_reader.specs.Answers.{told_words, words_of, told_line}
 use Rattle.sx_answer_reader.specs.Doors.{told_of, reason_of, reply_told, answer_told, IsLineOf}
 use Rattle.sx_answer_reader.proofs.Walks.{behind, joined}
 

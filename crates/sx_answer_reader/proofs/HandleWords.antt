@@ -1,5 +1,5 @@
 -- A handle as a word, and read back.
-use Rattle.std.proofs.Common.{codes, ◌≡◌, ℕ, suc, ◌+◌, ◌^◌, ◌≤◌, ◌<◌, Bool, true, false, cond, not, ◌&&◌, ◌==◌, nat_le, List, [], ◌∷◌, ◌++◌, length, take, drop, Option, Some, None}
+use Rattle.std.proofs.Common.{◌≡◌, ℕ, suc, ◌+◌, ◌^◌, ◌<◌, Bool, true, false, cond, not, ◌==◌, List, [], ◌∷◌, ◌++◌, length, drop, Some}
 use Rattle.std.proofs.Common.{refl, sym, ap, subst, ◌∙◌, arith, take-append-drop, length-append}
 use Rattle.std.specs.Char.{is_ascii_digit}
 use Rattle.std.specs.List.{before_first, position_or_len, list_all}
@@ -8,7 +8,7 @@ use Rattle.std.proofs.lemmas.Bool.{ne_eqb, eqb-true, and_parts, and_from}
 use Rattle.std.proofs.Math.Seq.{take-append_seam, drop-append_seam}
 use Rattle.sx_guard.specs.Handle.{Handle}
 use Rattle.sx_lines.specs.Reading.{when_some}
-use Rattle.sx_lines.specs.Fields.{is_decimal_word, number_in}
+use Rattle.sx_lines.specs.Fields.{number_in}
 use Rattle.sx_lines.proofs.DecimalDigits.{digit_is}
 use Rattle.sx_lines.proofs.SpelledWords.{is_visible, IsWord, both_pass}
 use Rattle.sx_lines.proofs.SpelledNumbers.{decimal_word, is_decimal, number_is}

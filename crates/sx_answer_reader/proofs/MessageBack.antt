@@ -1,23 +1,22 @@
 -- The words of a message are read as its reason.
-use Rattle.std.proofs.Common.{codes, ◌≡◌, ℕ, ◌+◌, ◌^◌, ◌≤◌, ◌<◌, Bool, true, false, cond, List, [], ◌∷◌, ◌++◌, length, Option, Some, None, bytes_eq}
-use Rattle.std.proofs.Common.{refl, sym, ap, subst, ◌∙◌, arith}
+use Rattle.std.proofs.Common.{codes, ◌≡◌, ℕ, Bool, true, cond, List, [], ◌∷◌, ◌++◌, Some, bytes_eq}
+use Rattle.std.proofs.Common.{refl, ap, ◌∙◌, arith}
 use Rattle.std.specs.Fmt.{decimal}
 use Rattle.std.proofs.lemmas.Slice.Eq.{bytes_eq-Decides}
 use Rattle.sx_guard.specs.Handle.{Handle}
 use Rattle.sx_lines.specs.Reading.{when_some}
-use Rattle.sx_lines.specs.Words.{next_word, behind_next}
-use Rattle.sx_lines.specs.Fields.{number_in}
+use Rattle.sx_lines.specs.Words.{next_word}
 use Rattle.sx_lines.proofs.SpelledWords.{IsWord, IsBehind, next_is, rest_is}
 use Rattle.sx_lines.proofs.SpelledNumbers.{decimal_word, number_is}
 use Rattle.sx_answer_reader.specs.declared.reason.Reason.{Reason}
 use Rattle.sx_answer_reader.specs.declared.reason.Reason.TheVariants.{ShareAbsent, ParentAbsent, NameAbsent, NameThere, IsDirectory, IsFile, LeaseHeld, Pending as IsPending, ReadOnly as IsReadOnly, Shared, Locked, NotLocked, QuotaMet, OpensFull, NoHandle, LacksAccess}
 use Rattle.sx_answer_reader.specs.declared.subject.Subject.{Subject}
 use Rattle.sx_answer_reader.specs.declared.subject.Subject.TheVariants.{No, There, Directory, File, Pending, ReadOnly, Lease, Sharing, Lock, Not, Quota, Opens, Handle as HandleWord, Access}
-use Rattle.sx_answer_reader.specs.Limits.{IsNumber, IsCount, IsIndex}
+use Rattle.sx_answer_reader.specs.Limits.{IsNumber, IsCount}
 use Rattle.sx_answer_reader.specs.Refusals.{handle_text, message_words, IsHandle, FitsReason}
 use Rattle.sx_answer_reader.specs.Words.{end_of, number, count, literal}
 use Rattle.sx_answer_reader.specs.Messages.{handle_of, last_handle, last_number, last_word, id, parent, absent, sharing, lock, quota, message_by, subject_of, message}
-use Rattle.sx_answer_reader.proofs.Walks.{behind, behind_shaped}
+use Rattle.sx_answer_reader.proofs.Walks.{behind}
 use Rattle.sx_answer_reader.proofs.HandleWords.{handle_word, handle_back}
 
 pub number_word : (n : ℕ) → IsNumber n → IsWord (decimal n)

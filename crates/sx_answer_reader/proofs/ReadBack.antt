@@ -1,6 +1,6 @@
 -- The line of an answer is read as this answer.
-use Rattle.std.proofs.Common.{codes, ◌≡◌, ℕ, ◌+◌, ◌^◌, ◌≤◌, ◌<◌, Bool, true, false, cond, List, [], ◌∷◌, ◌++◌, length, Option, Some, None, bytes_eq}
-use Rattle.std.proofs.Common.{refl, sym, ap, subst, ◌∙◌, arith}
+use Rattle.std.proofs.Common.{codes, ◌≡◌, ℕ, Bool, true, false, cond, List, [], ◌∷◌, ◌++◌, Some, None, bytes_eq}
+use Rattle.std.proofs.Common.{refl, sym, ap, ◌∙◌, arith}
 use Rattle.std.specs.List.{join_with_byte}
 use Rattle.std.specs.Fmt.{decimal}
 use Rattle.sx_call.specs.declared.refusals.Stop.{Stop}
@@ -8,18 +8,17 @@ use Rattle.sx_call.specs.declared.refusals.Stop.TheVariants.{NoMemory, HistoryFu
 use Rattle.sx_call.specs.declared.replies.Fate.{Fate}
 use Rattle.sx_call.specs.declared.replies.Fate.TheVariants.{Kept, Pending, Gone}
 use Rattle.sx_lines.specs.declared.line.TheConstants.{LINE_LIMIT}
-use Rattle.sx_lines.specs.Words.{next_word, behind_next}
-use Rattle.sx_lines.specs.Fields.{number_in}
+use Rattle.sx_lines.specs.Words.{next_word}
 use Rattle.sx_lines.proofs.SpelledWords.{IsWord, IsBehind, first_is, behind_is, next_is, rest_is}
-use Rattle.sx_lines.proofs.SpelledNumbers.{decimal_word, number_is}
+use Rattle.sx_lines.proofs.SpelledNumbers.{number_is}
 use Rattle.sx_answer_reader.specs.declared.kind.Kind.{Kind}
 use Rattle.sx_answer_reader.specs.declared.kind.Kind.TheVariants.{Start, End, Open, Close, Write, Resize, Lock, Unlock, Dispose}
 use Rattle.sx_answer_reader.specs.declared.answer.Told.{Told}
 use Rattle.sx_answer_reader.specs.declared.answer.Told.TheVariants.{Started, Ended, Opened, Closed, Wrote, Resized, Locked, Unlocked, Disposed}
 use Rattle.sx_answer_reader.specs.declared.answer.Answer.{Answer}
 use Rattle.sx_answer_reader.specs.declared.answer.Answer.TheVariants.{Done, Refused, Syntax, Long, Stop as Stopped}
-use Rattle.sx_answer_reader.specs.Answers.{told_words, stop_words, words_of, told_line, made_word, fate_word, FitsTold, FitsStop, Fits}
-use Rattle.sx_answer_reader.specs.Words.{number, count, index, choice, fate, end_of}
+use Rattle.sx_answer_reader.specs.Answers.{told_words, words_of, told_line, made_word, fate_word, FitsTold, FitsStop, Fits}
+use Rattle.sx_answer_reader.specs.Words.{index, choice, fate, end_of}
 use Rattle.sx_answer_reader.specs.Grammar.{started, ended, opened, closed, wrote, resized, bare, told_by, kind_of, told, done, syntax, long, full, stopped, refused, failed, answer_of}
 use Rattle.sx_answer_reader.specs.declared.reason.Reason.{Reason}
 use Rattle.sx_answer_reader.specs.declared.reason.Reason.TheVariants.{ShareAbsent, ParentAbsent, NameAbsent, NameThere, IsDirectory, IsFile, LeaseHeld, Pending, ReadOnly, Shared, Locked as LockInTheWay, NotLocked, QuotaMet, OpensFull, NoHandle, LacksAccess}

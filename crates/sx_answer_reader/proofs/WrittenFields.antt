@@ -1,7 +1,6 @@
 -- Fields that are read of a line's next word: what this word is.
-use Rattle.std.proofs.Common.{codes, ◌≡◌, ℕ, ◌+◌, ◌^◌, ◌≤◌, ◌<◌, Bool, true, false, cond, List, [], ◌∷◌, length, Option, Some, None, bytes_eq}
-use Rattle.std.proofs.Common.{refl, sym, ap, subst, ◌∙◌, arith}
-use Rattle.std.specs.Fmt.{decimal}
+use Rattle.std.proofs.Common.{codes, ◌≡◌, ℕ, ◌<◌, Bool, true, false, cond, List, [], ◌∷◌, length, Some, bytes_eq}
+use Rattle.std.proofs.Common.{refl, ap, ◌∙◌, arith}
 use Rattle.std.proofs.lemmas.Slice.Eq.{bytes_eq-Decides}
 use Rattle.sx_call.specs.declared.replies.Fate.{Fate}
 use Rattle.sx_call.specs.declared.replies.Fate.TheVariants.{Kept, Pending, Gone}
@@ -9,7 +8,7 @@ use Rattle.sx_lines.specs.Words.{next_word}
 use Rattle.sx_answer_reader.specs.declared.kind.Kind.{Kind}
 use Rattle.sx_answer_reader.specs.declared.kind.Kind.TheVariants.{Start, End, Open, Close, Write, Resize, Lock, Unlock, Dispose}
 use Rattle.sx_answer_reader.specs.Answers.{made_word, fate_word}
-use Rattle.sx_answer_reader.specs.Words.{number, count, index, choice, fate, found, literal}
+use Rattle.sx_answer_reader.specs.Words.{number, count, index, choice, fate, found}
 use Rattle.sx_answer_reader.specs.Grammar.{kind_of}
 use Rattle.sx_answer_reader.proofs.Numerals.{IsNumeral, numeral}
 

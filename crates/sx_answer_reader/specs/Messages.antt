@@ -1,6 +1,6 @@
 -- What the words of a refusal's message spell. Each name in a function is what is left of the line from that word on,
 -- behind the word before it.
-use Rattle.std.specs.Prelude.{ℕ, ◌==◌, Bool, bytes_eq, codes, List, [], ◌∷◌, drop, if◌then◌else◌, Option, Some, None}
+use Rattle.std.specs.Prelude.{ℕ, ◌==◌, Bool, bytes_eq, codes, List, [], ◌∷◌, drop, if◌then◌else◌, Option, Some}
 use Rattle.std.specs.List.{before_first, position_or_len}
 use Rattle.sx_guard.specs.Handle.{Handle}
 use Rattle.sx_lines.specs.Reading.{when_some}

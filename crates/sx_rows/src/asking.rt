@@ -167,7 +167,7 @@ fn check(rt: &impl Abort, report: ConnReport, taken: u64) {
 }
 
 /// Asks one request over a connection of its own.
-fn ask<R: Abort + Wait>(
+fn ask_one<R: Abort + Wait>(
     rt: &R,
     alloc: Global,
     office: &Office,
@@ -201,6 +201,6 @@ pub(crate) fn asks<R: Abort + Wait>(
     ensures same { IsSamePass pass.old pass.new }
 {
     for row in table.iter() {
-        ask(rt, alloc, office, pass, outside, row);
+        ask_one(rt, alloc, office, pass, outside, row);
     }
 }

@@ -1,7 +1,7 @@
 //! The calls on a file's bytes, each in the state that the calls before it left.
 
 use crate::asking::{Ask, asks};
-use crate::opening::{begun, closed, outside};
+use crate::opening::{begun, closed, new_year};
 
 /// A file that is made, written, cleared and read.
 const WRITTEN: [Ask; 14] = [
@@ -204,7 +204,7 @@ const WRITTEN: [Ask; 14] = [
 #[test]
 fn the_calls_on_the_bytes_of_a_file(rt: HostRuntime) {
     let alloc = rt.alloc();
-    let mut outside = outside(&rt, alloc, 10_000_000);
+    let mut outside = new_year(&rt, alloc, 10_000_000);
     let (office, mut pass) = begun(&rt, alloc);
     asks(&rt, alloc, &office, &mut pass, &mut outside, &WRITTEN);
     assert_eq!(rt; closed(&rt, office, pass).entries().len(), WRITTEN.len());

@@ -1,7 +1,7 @@
 //! The calls on directories, each in the state that the calls before it left.
 
 use crate::asking::{Ask, asks};
-use crate::opening::{begun, closed, outside};
+use crate::opening::{begun, closed, new_year};
 
 /// A directory from its making on, with what is made and removed in it.
 const DIRECTORIES: [Ask; 20] = [
@@ -256,7 +256,7 @@ const DIRECTORIES: [Ask; 20] = [
 #[test]
 fn the_calls_on_directories(rt: HostRuntime) {
     let alloc = rt.alloc();
-    let mut outside = outside(&rt, alloc, 10_000_000);
+    let mut outside = new_year(&rt, alloc, 10_000_000);
     let (office, mut pass) = begun(&rt, alloc);
     asks(&rt, alloc, &office, &mut pass, &mut outside, &DIRECTORIES);
     assert_eq!(rt;

@@ -1,7 +1,7 @@
 //! The calls on a file, each in the state that the calls before it left.
 
 use crate::asking::{Ask, asks};
-use crate::opening::{begun, closed, outside};
+use crate::opening::{begun, closed, new_year};
 
 /// A file whose properties and metadata change, and which is removed.
 const KEPT: [Ask; 24] = [
@@ -324,7 +324,7 @@ const KEPT: [Ask; 24] = [
 #[test]
 fn the_calls_on_a_file(rt: HostRuntime) {
     let alloc = rt.alloc();
-    let mut outside = outside(&rt, alloc, 10_000_000);
+    let mut outside = new_year(&rt, alloc, 10_000_000);
     let (office, mut pass) = begun(&rt, alloc);
     asks(&rt, alloc, &office, &mut pass, &mut outside, &KEPT);
     assert_eq!(rt; closed(&rt, office, pass).entries().len(), KEPT.len());

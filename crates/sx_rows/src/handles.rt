@@ -1,7 +1,7 @@
 //! Handles, listed and closed by requests.
 
 use crate::asking::{Ask, asks};
-use crate::opening::{begun, closed, outside};
+use crate::opening::{begun, closed, new_year};
 use crate::saying::{Said, ended, says, started};
 
 /// A share and a directory.
@@ -130,7 +130,7 @@ const HANDLES: [Ask; 8] = [
     },
 ];
 
-const CLOSED: [Said; 2] = [
+const NOT_THERE: [Said; 2] = [
     Said {
         says: "stat 1",
         told: "ERR INVALID_HANDLE 14 handle 1.1",
@@ -202,7 +202,7 @@ const NO_OPEN: [Said; 1] = [Said {
 #[test]
 fn the_calls_on_handles(rt: HostRuntime) {
     let alloc = rt.alloc();
-    let mut outside = outside(&rt, alloc, 10_000_000);
+    let mut outside = new_year(&rt, alloc, 10_000_000);
     let (office, mut pass) = begun(&rt, alloc);
     asks(&rt, alloc, &office, &mut pass, &mut outside, &MADE);
     let session = started(&rt, &office, &mut pass, &mut outside);
@@ -223,7 +223,7 @@ fn the_calls_on_handles(rt: HostRuntime) {
         &mut pass,
         &mut outside,
         &session,
-        &CLOSED,
+        &NOT_THERE,
     );
     ended(&rt, &office, &mut pass, &mut outside, session);
     assert_eq!(rt; closed(&rt, office, pass).entries().len(), 16);
@@ -232,7 +232,7 @@ fn the_calls_on_handles(rt: HostRuntime) {
 #[test]
 fn one_handle_is_listed_and_closed(rt: HostRuntime) {
     let alloc = rt.alloc();
-    let mut outside = outside(&rt, alloc, 0);
+    let mut outside = new_year(&rt, alloc, 0);
     let (office, mut pass) = begun(&rt, alloc);
     asks(&rt, alloc, &office, &mut pass, &mut outside, &SHARE);
     let session = started(&rt, &office, &mut pass, &mut outside);

@@ -1,7 +1,7 @@
 //! A file's lease, and the opens that meet it.
 
 use crate::asking::{Ask, asks};
-use crate::opening::{begun, closed, outside};
+use crate::opening::{begun, closed, new_year};
 use crate::saying::{Said, ended, says, started};
 
 /// A file with a lease, written without its id, with another and with its own.
@@ -126,7 +126,7 @@ const REFUSED: [Ask; 1] = [Ask {
 #[test]
 fn a_lease_and_an_open_that_writes(rt: HostRuntime) {
     let alloc = rt.alloc();
-    let mut outside = outside(&rt, alloc, 0);
+    let mut outside = new_year(&rt, alloc, 0);
     let (office, mut pass) = begun(&rt, alloc);
     asks(&rt, alloc, &office, &mut pass, &mut outside, &LEASED);
     let session = started(&rt, &office, &mut pass, &mut outside);

@@ -1,7 +1,7 @@
 //! Locks and pending nodes, and the requests that meet them.
 
 use crate::asking::{Ask, asks};
-use crate::opening::{begun, closed, outside};
+use crate::opening::{begun, closed, new_year};
 use crate::saying::{Said, ended, says, started, talks};
 
 /// The share.
@@ -220,7 +220,7 @@ const FILLED: [Ask; 1] = [Ask {
     says: "",
 }];
 
-const CLOSED: [Said; 1] = [Said {
+const CLOSE: [Said; 1] = [Said {
     says: "close 1",
     told: "OK 5 close kept",
 }];
@@ -241,7 +241,7 @@ const STILL_THERE: [Ask; 1] = [Ask {
 #[test]
 fn requests_by_a_lock(rt: HostRuntime) {
     let alloc = rt.alloc();
-    let mut outside = outside(&rt, alloc, 0);
+    let mut outside = new_year(&rt, alloc, 0);
     let (office, mut pass) = begun(&rt, alloc);
     asks(&rt, alloc, &office, &mut pass, &mut outside, &SHARE);
     let session = started(&rt, &office, &mut pass, &mut outside);
@@ -262,7 +262,7 @@ fn requests_by_a_lock(rt: HostRuntime) {
 #[test]
 fn the_holders_own_shared_lock(rt: HostRuntime) {
     let alloc = rt.alloc();
-    let mut outside = outside(&rt, alloc, 0);
+    let mut outside = new_year(&rt, alloc, 0);
     let (office, mut pass) = begun(&rt, alloc);
     asks(&rt, alloc, &office, &mut pass, &mut outside, &SHARE);
     talks(&rt, alloc, &office, &mut pass, &mut outside, &OWN_LOCK);
@@ -272,7 +272,7 @@ fn the_holders_own_shared_lock(rt: HostRuntime) {
 #[test]
 fn a_pending_file_goes_with_its_last_open(rt: HostRuntime) {
     let alloc = rt.alloc();
-    let mut outside = outside(&rt, alloc, 0);
+    let mut outside = new_year(&rt, alloc, 0);
     let (office, mut pass) = begun(&rt, alloc);
     asks(&rt, alloc, &office, &mut pass, &mut outside, &SHARE);
     let session = started(&rt, &office, &mut pass, &mut outside);
@@ -303,7 +303,7 @@ fn a_pending_file_goes_with_its_last_open(rt: HostRuntime) {
 #[test]
 fn a_directory_with_a_file_ignores_its_mark(rt: HostRuntime) {
     let alloc = rt.alloc();
-    let mut outside = outside(&rt, alloc, 0);
+    let mut outside = new_year(&rt, alloc, 0);
     let (office, mut pass) = begun(&rt, alloc);
     asks(&rt, alloc, &office, &mut pass, &mut outside, &SHARE);
     let session = started(&rt, &office, &mut pass, &mut outside);
@@ -324,7 +324,7 @@ fn a_directory_with_a_file_ignores_its_mark(rt: HostRuntime) {
         &mut pass,
         &mut outside,
         &session,
-        &CLOSED,
+        &CLOSE,
     );
     asks(&rt, alloc, &office, &mut pass, &mut outside, &STILL_THERE);
     ended(&rt, &office, &mut pass, &mut outside, session);

@@ -1,7 +1,7 @@
 //! Names, pages of names, and files in directories.
 
 use crate::asking::{Ask, asks};
-use crate::opening::{begun, closed, outside};
+use crate::opening::{begun, closed, new_year};
 
 /// Names are compared by their folding, and a broken rule is told with its place.
 const FOLDED: [Ask; 14] = [
@@ -376,7 +376,7 @@ const READ_ONLY: [Ask; 9] = [
 #[test]
 fn names_are_compared_by_their_folding(rt: HostRuntime) {
     let alloc = rt.alloc();
-    let mut outside = outside(&rt, alloc, 0);
+    let mut outside = new_year(&rt, alloc, 0);
     let (office, mut pass) = begun(&rt, alloc);
     asks(&rt, alloc, &office, &mut pass, &mut outside, &FOLDED);
     assert_eq!(rt; closed(&rt, office, pass).entries().len(), 4);
@@ -385,7 +385,7 @@ fn names_are_compared_by_their_folding(rt: HostRuntime) {
 #[test]
 fn a_page_of_names(rt: HostRuntime) {
     let alloc = rt.alloc();
-    let mut outside = outside(&rt, alloc, 0);
+    let mut outside = new_year(&rt, alloc, 0);
     let (office, mut pass) = begun(&rt, alloc);
     asks(&rt, alloc, &office, &mut pass, &mut outside, &PAGES);
     assert_eq!(rt; closed(&rt, office, pass).entries().len(), 6);
@@ -394,7 +394,7 @@ fn a_page_of_names(rt: HostRuntime) {
 #[test]
 fn a_read_only_file_in_a_directory(rt: HostRuntime) {
     let alloc = rt.alloc();
-    let mut outside = outside(&rt, alloc, 10_000_000);
+    let mut outside = new_year(&rt, alloc, 10_000_000);
     let (office, mut pass) = begun(&rt, alloc);
     asks(&rt, alloc, &office, &mut pass, &mut outside, &READ_ONLY);
     assert_eq!(rt; closed(&rt, office, pass).entries().len(), 9);

@@ -20,7 +20,7 @@ pub(crate) struct Outside {
 }
 
 /// The outside from 2022-01-01T00:00:00Z on, whose clock goes on by this step each time that it is asked.
-pub(crate) fn outside(rt: &impl Abort, alloc: Global, step: u64) -> Outside {
+pub(crate) fn new_year(rt: &impl Abort, alloc: Global, step: u64) -> Outside {
     match Account::read(alloc, b"acct", b"a2V5") {
         Ok(account) => Outside {
             clock: StepClock {

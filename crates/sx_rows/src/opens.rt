@@ -1,7 +1,7 @@
 //! Opens, and the requests that meet them.
 
 use crate::asking::{Ask, asks};
-use crate::opening::{begun, closed, outside};
+use crate::opening::{begun, closed, new_year};
 use crate::saying::{Said, ended, says, started, talks};
 
 /// The share.
@@ -154,7 +154,7 @@ const READ_BEHIND: [Ask; 1] = [Ask {
 #[test]
 fn two_opens_that_share(rt: HostRuntime) {
     let alloc = rt.alloc();
-    let mut outside = outside(&rt, alloc, 0);
+    let mut outside = new_year(&rt, alloc, 0);
     let (office, mut pass) = begun(&rt, alloc);
     asks(&rt, alloc, &office, &mut pass, &mut outside, &SHARE);
     let first = started(&rt, &office, &mut pass, &mut outside);
@@ -185,7 +185,7 @@ fn two_opens_that_share(rt: HostRuntime) {
 #[test]
 fn two_opens_that_clash(rt: HostRuntime) {
     let alloc = rt.alloc();
-    let mut outside = outside(&rt, alloc, 0);
+    let mut outside = new_year(&rt, alloc, 0);
     let (office, mut pass) = begun(&rt, alloc);
     asks(&rt, alloc, &office, &mut pass, &mut outside, &SHARE);
     let first = started(&rt, &office, &mut pass, &mut outside);
@@ -216,7 +216,7 @@ fn two_opens_that_clash(rt: HostRuntime) {
 #[test]
 fn an_open_that_shares_no_reading(rt: HostRuntime) {
     let alloc = rt.alloc();
-    let mut outside = outside(&rt, alloc, 0);
+    let mut outside = new_year(&rt, alloc, 0);
     let (office, mut pass) = begun(&rt, alloc);
     asks(&rt, alloc, &office, &mut pass, &mut outside, &SHARE);
     let session = started(&rt, &office, &mut pass, &mut outside);
@@ -244,7 +244,7 @@ fn an_open_that_shares_no_reading(rt: HostRuntime) {
 #[test]
 fn an_open_without_access(rt: HostRuntime) {
     let alloc = rt.alloc();
-    let mut outside = outside(&rt, alloc, 0);
+    let mut outside = new_year(&rt, alloc, 0);
     let (office, mut pass) = begun(&rt, alloc);
     asks(&rt, alloc, &office, &mut pass, &mut outside, &SHARE);
     let session = started(&rt, &office, &mut pass, &mut outside);
@@ -282,7 +282,7 @@ fn an_open_without_access(rt: HostRuntime) {
 #[test]
 fn a_session_and_then_a_request(rt: HostRuntime) {
     let alloc = rt.alloc();
-    let mut outside = outside(&rt, alloc, 0);
+    let mut outside = new_year(&rt, alloc, 0);
     let (office, mut pass) = begun(&rt, alloc);
     asks(&rt, alloc, &office, &mut pass, &mut outside, &SHARE);
     talks(&rt, alloc, &office, &mut pass, &mut outside, &WRITTEN);

@@ -1,7 +1,7 @@
 //! The calls on a share, each in the state that the calls before it left.
 
 use crate::asking::{Ask, asks};
-use crate::opening::{begun, closed, outside};
+use crate::opening::{begun, closed, new_year};
 
 /// A share from its making to its end, with its lease and a snapshot.
 const SHARES: [Ask; 28] = [
@@ -335,7 +335,7 @@ const SHARES: [Ask; 28] = [
 #[test]
 fn the_calls_on_a_share(rt: HostRuntime) {
     let alloc = rt.alloc();
-    let mut outside = outside(&rt, alloc, 10_000_000);
+    let mut outside = new_year(&rt, alloc, 10_000_000);
     let (office, mut pass) = begun(&rt, alloc);
     asks(&rt, alloc, &office, &mut pass, &mut outside, &SHARES);
     assert_eq!(rt; closed(&rt, office, pass).entries().len(), SHARES.len());

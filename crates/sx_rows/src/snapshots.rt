@@ -1,7 +1,7 @@
 //! Snapshots read as the share then stood.
 
 use crate::asking::{Ask, asks};
-use crate::opening::{begun, closed, outside};
+use crate::opening::{begun, closed, new_year};
 
 /// A file that is written again, emptied and deleted behind a snapshot.
 const STOOD: [Ask; 12] = [
@@ -387,7 +387,7 @@ const AS_IT_STOOD: [Ask; 15] = [
 #[test]
 fn a_snapshot_keeps_what_stood(rt: HostRuntime) {
     let alloc = rt.alloc();
-    let mut outside = outside(&rt, alloc, 0);
+    let mut outside = new_year(&rt, alloc, 0);
     let (office, mut pass) = begun(&rt, alloc);
     asks(&rt, alloc, &office, &mut pass, &mut outside, &STOOD);
     assert_eq!(rt; closed(&rt, office, pass).entries().len(), 12);
@@ -396,7 +396,7 @@ fn a_snapshot_keeps_what_stood(rt: HostRuntime) {
 #[test]
 fn a_moment_is_given_once(rt: HostRuntime) {
     let alloc = rt.alloc();
-    let mut outside = outside(&rt, alloc, 0);
+    let mut outside = new_year(&rt, alloc, 0);
     let (office, mut pass) = begun(&rt, alloc);
     asks(&rt, alloc, &office, &mut pass, &mut outside, &TICKS);
     assert_eq!(rt; closed(&rt, office, pass).entries().len(), 5);
@@ -405,7 +405,7 @@ fn a_moment_is_given_once(rt: HostRuntime) {
 #[test]
 fn each_reading_call_reads_a_snapshot(rt: HostRuntime) {
     let alloc = rt.alloc();
-    let mut outside = outside(&rt, alloc, 10_000_000);
+    let mut outside = new_year(&rt, alloc, 10_000_000);
     let (office, mut pass) = begun(&rt, alloc);
     asks(&rt, alloc, &office, &mut pass, &mut outside, &AS_IT_STOOD);
     assert_eq!(rt; closed(&rt, office, pass).entries().len(), 14);

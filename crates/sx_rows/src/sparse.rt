@@ -1,7 +1,7 @@
 //! Marks and bytes of sparse files, to the greatest length.
 
 use crate::asking::{Ask, asks};
-use crate::opening::{begun, closed, outside};
+use crate::opening::{begun, closed, new_year};
 
 /// The last byte of a file of the greatest length.
 const GREATEST: [Ask; 7] = [
@@ -366,7 +366,7 @@ const PARTIAL: [Ask; 8] = [
 #[test]
 fn the_last_byte_of_the_greatest_file(rt: HostRuntime) {
     let alloc = rt.alloc();
-    let mut outside = outside(&rt, alloc, 0);
+    let mut outside = new_year(&rt, alloc, 0);
     let (office, mut pass) = begun(&rt, alloc);
     asks(&rt, alloc, &office, &mut pass, &mut outside, &GREATEST);
     assert_eq!(rt; closed(&rt, office, pass).entries().len(), 7);
@@ -375,7 +375,7 @@ fn the_last_byte_of_the_greatest_file(rt: HostRuntime) {
 #[test]
 fn a_clear_inside_granules(rt: HostRuntime) {
     let alloc = rt.alloc();
-    let mut outside = outside(&rt, alloc, 0);
+    let mut outside = new_year(&rt, alloc, 0);
     let (office, mut pass) = begun(&rt, alloc);
     asks(&rt, alloc, &office, &mut pass, &mut outside, &BETWEEN);
     assert_eq!(rt; closed(&rt, office, pass).entries().len(), 13);
@@ -384,7 +384,7 @@ fn a_clear_inside_granules(rt: HostRuntime) {
 #[test]
 fn a_last_granule_of_one_byte(rt: HostRuntime) {
     let alloc = rt.alloc();
-    let mut outside = outside(&rt, alloc, 0);
+    let mut outside = new_year(&rt, alloc, 0);
     let (office, mut pass) = begun(&rt, alloc);
     asks(&rt, alloc, &office, &mut pass, &mut outside, &PARTIAL);
     assert_eq!(rt; closed(&rt, office, pass).entries().len(), 7);
