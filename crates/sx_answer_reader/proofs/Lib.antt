@@ -1,0 +1,10 @@
+pub mod Walks
+pub mod Numerals
+pub mod WrittenFields
+pub mod HandleWords
+pub mod MessageWords
+pub mod OnlyPrinted
+pub mod MessageBack
+pub mod ReadBack
+pub mod Answered
+pub mod DoorLines

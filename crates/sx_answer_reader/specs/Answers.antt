@@ -1,0 +1,82 @@
+-- The lines of a session's answers, by their words.
+use Rattle.std.specs.Prelude.{codes, ℕ, Bool, if◌then◌else◌, List, [], ◌∷◌, ⊤}
+use Rattle.std.specs.List.{join_with_byte}
+use Rattle.std.specs.Fmt.{decimal}
+use Rattle.sx_call.specs.declared.refusals.Stop.{Stop}
+use Rattle.sx_call.specs.declared.refusals.Stop.TheVariants.{NoMemory, HistoryFull}
+use Rattle.sx_call.specs.declared.replies.Fate.{Fate}
+use Rattle.sx_call.specs.declared.replies.Fate.TheVariants.{Kept, Pending, Gone}
+use Rattle.sx_lines.specs.declared.line.TheConstants.{LINE_LIMIT}
+use Rattle.sx_answer_reader.specs.declared.answer.Told.{Told}
+use Rattle.sx_answer_reader.specs.declared.answer.Told.TheVariants.{Started, Ended, Opened, Closed, Wrote, Resized}
+use Rattle.sx_answer_reader.specs.declared.answer.Told.TheVariants.{Locked, Unlocked, Disposed}
+use Rattle.sx_answer_reader.specs.Limits.{IsNumber, IsCount, IsIndex}
+use Rattle.sx_answer_reader.specs.Refusals.{reason_word, message_words, FitsReason}
+use Rattle.sx_answer_reader.specs.declared.answer.Answer.{Answer}
+use Rattle.sx_answer_reader.specs.declared.answer.Answer.TheVariants.{Done, Refused, Syntax, Long, Stop as Stopped}
+
+-- what a file or directory is after a close, as a word
+abbrev pub fate_word : Fate → List ℕ
+fate_word Kept = codes "kept"
+fate_word Pending = codes "pending"
+fate_word Gone = codes "gone"
+
+-- whether an open made its file or directory, as a word
+abbrev pub made_word : Bool → List ℕ
+made_word made = if made then codes "created" else codes "opened"
+
+-- the words that tell what became of a call that was not refused
+unfoldable pub told_words : Told → List (List ℕ)
+told_words (Started session) = codes "start" ∷ decimal session ∷ []
+told_words (Ended closed) = codes "end" ∷ decimal closed ∷ []
+told_words (Opened index made id length) =
+    codes "open" ∷ decimal index ∷ made_word made ∷ decimal id ∷ decimal length ∷ []
+told_words (Closed fate) = codes "close" ∷ fate_word fate ∷ []
+told_words (Wrote count length) = codes "write" ∷ decimal count ∷ decimal length ∷ []
+told_words (Resized length) = codes "resize" ∷ decimal length ∷ []
+told_words Locked = codes "lock" ∷ []
+told_words Unlocked = codes "unlock" ∷ []
+told_words Disposed = codes "dispose" ∷ []
+
+-- why a call was not appended to the history, in words behind `ERR`
+abbrev pub stop_words : Stop → List (List ℕ)
+stop_words NoMemory = codes "NO_MEMORY" ∷ []
+stop_words (HistoryFull entries sessions limit) =
+    codes "HISTORY_FULL" ∷ decimal entries ∷ decimal sessions ∷ decimal limit ∷ []
+
+-- the words of an answer
+unfoldable pub words_of : Answer → List (List ℕ)
+words_of (Done place told) = codes "OK" ∷ decimal place ∷ told_words told
+words_of (Refused place reason) = codes "ERR" ∷ reason_word reason ∷ decimal place ∷ message_words reason
+words_of (Syntax at) = codes "ERR" ∷ codes "SYNTAX" ∷ decimal at ∷ []
+words_of Long = codes "ERR" ∷ codes "LINE" ∷ decimal LINE_LIMIT ∷ []
+words_of (Stopped stop) = codes "ERR" ∷ stop_words stop
+
+-- the line of an answer: its words with one space between each two, and no line feed
+unfoldable pub told_line : Answer → List ℕ
+told_line answer = join_with_byte 32 (words_of answer)
+
+-- the numbers of what is told fit their fields
+abbrev pub FitsTold : Told → Type 0
+FitsTold (Started session) = IsCount session
+FitsTold (Ended closed) = IsCount closed
+FitsTold (Opened index made id length) = IsIndex index × IsNumber id × IsNumber length
+FitsTold (Closed fate) = ⊤
+FitsTold (Wrote count length) = IsCount count × IsNumber length
+FitsTold (Resized length) = IsNumber length
+FitsTold Locked = ⊤
+FitsTold Unlocked = ⊤
+FitsTold Disposed = ⊤
+
+-- the numbers of a stop fit their fields
+abbrev pub FitsStop : Stop → Type 0
+FitsStop NoMemory = ⊤
+FitsStop (HistoryFull entries sessions limit) = IsNumber entries × IsNumber sessions × IsNumber limit
+
+-- the numbers of an answer fit their fields, as those of every answer in a program do
+abbrev pub Fits : Answer → Type 0
+Fits (Done place told) = IsNumber place × FitsTold told
+Fits (Refused place reason) = IsNumber place × FitsReason reason
+Fits (Syntax at) = IsNumber at
+Fits Long = ⊤
+Fits (Stopped stop) = FitsStop stop

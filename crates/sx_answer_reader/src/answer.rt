@@ -1,0 +1,89 @@
+//! What the lines of a session's answers tell.
+
+use crate::reason::Reason;
+use sx_call::{Fate, Stop};
+use sx_guard::HandleIndex;
+
+/// What a session's call is told, where it was not refused.
+#[derive(Debug, Drop)]
+pub enum Told {
+    /// The session is started.
+    Started {
+        /// Its number.
+        session: u32,
+    },
+    /// The session is ended.
+    Ended {
+        /// How many handles were closed.
+        closed: u32,
+    },
+    /// The file or directory is open.
+    Opened {
+        /// The handle's index in the session.
+        index: HandleIndex,
+        /// Whether the open made it.
+        made: bool,
+        /// Its id.
+        id: u64,
+        /// Its length in bytes.
+        length: u64,
+    },
+    /// The handle is closed.
+    Closed {
+        /// What its file or directory is now.
+        fate: Fate,
+    },
+    /// The bytes are written.
+    Wrote {
+        /// How many they were.
+        count: u32,
+        /// The file's length after it, in bytes.
+        length: u64,
+    },
+    /// The file has a new length.
+    Resized {
+        /// The length in bytes.
+        length: u64,
+    },
+    /// The range is locked.
+    Locked,
+    /// The lock is removed.
+    Unlocked,
+    /// The handle's mark for delete on close is set or taken off.
+    Disposed,
+}
+
+/// What the line of an answer tells.
+#[derive(Debug, Drop)]
+pub enum Answer {
+    /// The call was appended to the history, and was not refused.
+    Done {
+        /// The place of its entry, counted from 1.
+        place: u64,
+        /// What it is told.
+        told: Told,
+    },
+    /// The call was appended to the history, and was refused.
+    Refused {
+        /// The place of its entry, counted from 1.
+        place: u64,
+        /// Why it was refused.
+        reason: Reason,
+    },
+    /// A word of the line that was asked isn't as it must be.
+    Syntax {
+        /// The offset of the first such word, in bytes.
+        at: u64,
+    },
+    /// The line that was asked is over its limit.
+    Long,
+    /// The call was not appended to the history.
+    Stop(Stop),
+}
+
+/// Why a line was not read.
+#[derive(Clone, Copy, Debug, PartialEq, Eq)]
+pub enum Unread {
+    /// It is the line of no answer that is read here.
+    NoAnswer,
+}

@@ -1,0 +1,18 @@
+//! The answers of a session's lines, read back: what a client of sessions is told.
+#![tactic(auto)]
+
+mod answer;
+mod kind;
+mod laws;
+mod messages;
+mod numbers;
+mod reading;
+mod reason;
+mod subject;
+mod told;
+mod words;
+
+pub use answer::{Answer, Told, Unread};
+pub use laws::printed_answers_are_told;
+pub use reading::read_line;
+pub use reason::Reason;

@@ -1,0 +1,140 @@
+//! What calls that were not refused are told, call by call.
+ghost use Rattle.sx_answer_reader.specs.Reading.{Reads};
+ghost use Rattle.sx_answer_reader.specs.Grammar.{started, ended, opened, closed, wrote, resized, bare, told_by, told};
+ghost use Rattle.sx_answer_reader.specs.declared.answer.Told.TheVariants as variants;
+
+use crate::answer::{Told, Unread};
+use crate::kind::{Kind, kind_of};
+use crate::words::{behind_next, choice, count, end_of, fate, index, next_word, number};
+
+/// `start SESSION`
+#[tactic(auto, unfolding(crate::specs::Grammar::started))]
+fn started(session: &[u8]) -> Result<Told, Unread>
+    ensures { Reads result (started session.now) }
+{
+    let number = count(session)?;
+    end_of(behind_next(session))?;
+    Ok(Told::Started { session: number })
+}
+
+/// `end N`
+#[tactic(auto, unfolding(crate::specs::Grammar::ended))]
+fn ended(closed: &[u8]) -> Result<Told, Unread>
+    ensures { Reads result (ended closed.now) }
+{
+    let number = count(closed)?;
+    end_of(behind_next(closed))?;
+    Ok(Told::Ended { closed: number })
+}
+
+/// `open K created|opened ID LENGTH`
+#[tactic(auto, unfolding(crate::specs::Grammar::opened))]
+fn opened(k: &[u8]) -> Result<Told, Unread>
+    ensures { Reads result (opened k.now) }
+{
+    let word = behind_next(k);
+    let id = behind_next(word);
+    let length = behind_next(id);
+    let index = index(k)?;
+    let made = choice(b"created", b"opened", word)?;
+    let node = number(id)?;
+    let bytes = number(length)?;
+    end_of(behind_next(length))?;
+    Ok(Told::Opened {
+        index,
+        made,
+        id: node,
+        length: bytes,
+    })
+}
+
+/// `close kept|pending|gone`
+#[tactic(auto, unfolding(crate::specs::Grammar::closed))]
+fn closed(word: &[u8]) -> Result<Told, Unread>
+    ensures { Reads result (closed word.now) }
+{
+    let fate = fate(word)?;
+    end_of(behind_next(word))?;
+    Ok(Told::Closed { fate })
+}
+
+/// `write N LENGTH`
+#[tactic(auto, unfolding(crate::specs::Grammar::wrote))]
+fn wrote(n: &[u8]) -> Result<Told, Unread>
+    ensures { Reads result (wrote n.now) }
+{
+    let length = behind_next(n);
+    let written = count(n)?;
+    let bytes = number(length)?;
+    end_of(behind_next(length))?;
+    Ok(Told::Wrote {
+        count: written,
+        length: bytes,
+    })
+}
+
+/// `resize LENGTH`
+#[tactic(auto, unfolding(crate::specs::Grammar::resized))]
+fn resized(length: &[u8]) -> Result<Told, Unread>
+    ensures { Reads result (resized length.now) }
+{
+    let bytes = number(length)?;
+    end_of(behind_next(length))?;
+    Ok(Told::Resized { length: bytes })
+}
+
+/// `lock`
+#[tactic(auto, unfolding(crate::specs::Grammar::bare))]
+fn locked(behind: &[u8]) -> Result<Told, Unread>
+    ensures { Reads result (bare variants.Locked behind.now) }
+{
+    end_of(behind)?;
+    Ok(Told::Locked)
+}
+
+/// `unlock`
+#[tactic(auto, unfolding(crate::specs::Grammar::bare))]
+fn unlocked(behind: &[u8]) -> Result<Told, Unread>
+    ensures { Reads result (bare variants.Unlocked behind.now) }
+{
+    end_of(behind)?;
+    Ok(Told::Unlocked)
+}
+
+/// `dispose`
+#[tactic(auto, unfolding(crate::specs::Grammar::bare))]
+fn disposed(behind: &[u8]) -> Result<Told, Unread>
+    ensures { Reads result (bare variants.Disposed behind.now) }
+{
+    end_of(behind)?;
+    Ok(Told::Disposed)
+}
+
+/// What a call is told by the words behind its first.
+#[tactic(auto, unfolding(crate::specs::Grammar::told_by))]
+fn told_by(kind: Kind, behind: &[u8]) -> Result<Told, Unread>
+    ensures { Reads result (told_by kind behind.now) }
+{
+    match kind {
+        Kind::Start => started(behind),
+        Kind::End => ended(behind),
+        Kind::Open => opened(behind),
+        Kind::Close => closed(behind),
+        Kind::Write => wrote(behind),
+        Kind::Resize => resized(behind),
+        Kind::Lock => locked(behind),
+        Kind::Unlock => unlocked(behind),
+        Kind::Dispose => disposed(behind),
+    }
+}
+
+/// What a call is told, behind the place of its entry.
+#[tactic(auto, unfolding(crate::specs::Grammar::told))]
+pub(crate) fn told(behind: &[u8]) -> Result<Told, Unread>
+    ensures { Reads result (told behind.now) }
+{
+    match kind_of(next_word(behind)) {
+        Some(kind) => told_by(kind, behind_next(behind)),
+        None => Err(Unread::NoAnswer),
+    }
+}

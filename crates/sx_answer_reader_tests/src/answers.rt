@@ -1,0 +1,161 @@
+//! Lines of answers, by hand, and what each tells.
+
+use std::process::Abort;
+use sx_answer_reader::{Answer, Told, read_line};
+use sx_call::{Fate, Stop};
+
+/// The place and what is told of a line that says so.
+fn done(rt: &impl Abort, line: &str, place: u64) -> Told {
+    match read_line(line.as_bytes()) {
+        Ok(Answer::Done { place: at, told }) => {
+            assert!(rt; at == place, "{line}");
+            told
+        }
+        _ => panic!(rt; "{line}"),
+    }
+}
+
+/// Panics unless a session of this number was started.
+fn was_started(rt: &impl Abort, told: &Told, number: u32) {
+    match told {
+        Told::Started { session } => assert!(rt; *session == number),
+        _ => panic!(rt; "started"),
+    }
+}
+
+/// Panics unless a session ended with so many handles closed.
+fn was_ended(rt: &impl Abort, told: &Told, count: u32) {
+    match told {
+        Told::Ended { closed } => assert!(rt; *closed == count),
+        _ => panic!(rt; "ended"),
+    }
+}
+
+/// Panics unless a file or directory was opened so.
+fn was_opened(rt: &impl Abort, told: &Told, wanted: (u32, bool, u64, u64)) {
+    match told {
+        Told::Opened {
+            index,
+            made,
+            id,
+            length,
+        } => {
+            assert!(rt; index.number() == wanted.0);
+            assert!(rt; *made == wanted.1);
+            assert!(rt; *id == wanted.2);
+            assert!(rt; *length == wanted.3);
+        }
+        _ => panic!(rt; "opened"),
+    }
+}
+
+/// Panics unless a handle was closed so.
+fn was_closed(rt: &impl Abort, told: &Told, wanted: Fate) {
+    match told {
+        Told::Closed { fate } => assert!(rt; *fate == wanted),
+        _ => panic!(rt; "closed"),
+    }
+}
+
+/// Panics unless so many bytes were written, and the file is so long now.
+fn was_written(rt: &impl Abort, told: &Told, bytes: u32, now: u64) {
+    match told {
+        Told::Wrote { count, length } => {
+            assert!(rt; *count == bytes);
+            assert!(rt; *length == now);
+        }
+        _ => panic!(rt; "written"),
+    }
+}
+
+/// Panics unless a file has this new length.
+fn was_resized(rt: &impl Abort, told: &Told, now: u64) {
+    match told {
+        Told::Resized { length } => assert!(rt; *length == now),
+        _ => panic!(rt; "resized"),
+    }
+}
+
+#[test]
+fn sessions_begin_and_end(rt: HostRuntime) {
+    was_started(&rt, &done(&rt, "OK 2 start 1", 2), 1);
+    was_ended(&rt, &done(&rt, "OK 9 end 0", 9), 0);
+    was_ended(
+        &rt,
+        &done(
+            &rt,
+            "OK 18446744073709551615 end 4294967295",
+            18_446_744_073_709_551_615,
+        ),
+        4_294_967_295,
+    );
+}
+
+#[test]
+fn opens_and_closes_are_read(rt: HostRuntime) {
+    was_opened(
+        &rt,
+        &done(&rt, "OK 3 open 1 created 2 0", 3),
+        (1, true, 2, 0),
+    );
+    was_opened(
+        &rt,
+        &done(&rt, "OK 9 open 4294967295 opened 9 65536", 9),
+        (4_294_967_295, false, 9, 65_536),
+    );
+    was_closed(&rt, &done(&rt, "OK 5 close kept", 5), Fate::Kept);
+    was_closed(&rt, &done(&rt, "OK 5 close pending", 5), Fate::Pending);
+    was_closed(&rt, &done(&rt, "OK 5 close gone", 5), Fate::Gone);
+}
+
+#[test]
+fn writes_and_lengths_are_read(rt: HostRuntime) {
+    was_written(&rt, &done(&rt, "OK 4 write 5 10", 4), 5, 10);
+    was_resized(
+        &rt,
+        &done(&rt, "OK 7 resize 4398046511104", 7),
+        4_398_046_511_104,
+    );
+}
+
+#[test]
+fn words_alone_are_read(rt: HostRuntime) {
+    assert!(rt; matches!(done(&rt, "OK 6 lock", 6), Told::Locked));
+    assert!(rt; matches!(done(&rt, "OK 6 unlock", 6), Told::Unlocked));
+    assert!(rt; matches!(done(&rt, "OK 6 dispose", 6), Told::Disposed));
+}
+
+#[test]
+fn lines_outside_the_grammar_are_told(rt: HostRuntime) {
+    match read_line(b"ERR SYNTAX 6") {
+        Ok(Answer::Syntax { at }) => assert!(rt; at == 6),
+        _ => panic!(rt; "syntax"),
+    }
+    assert!(rt; matches!(read_line(b"ERR LINE 2097408"), Ok(Answer::Long)));
+}
+
+#[test]
+fn stops_are_told(rt: HostRuntime) {
+    assert!(rt;
+        matches!(
+            read_line(b"ERR NO_MEMORY"),
+            Ok(Answer::Stop(Stop::NoMemory))
+        )
+    );
+    match read_line(b"ERR HISTORY_FULL 8 2 10") {
+        Ok(
+            Answer::Stop(
+                Stop::HistoryFull {
+                    entries,
+                    sessions,
+                    limit,
+                },
+            ),
+        ) => {
+            assert!(rt; entries == 8);
+            assert!(rt; sessions == 2);
+            assert!(rt; limit == 10);
+        }
+        _ => panic!(rt; "full"),
+    }
+}
