@@ -2,8 +2,5 @@ pub mod Changes
 pub mod Rest
 pub mod ByName
 pub mod Named
-pub mod Runs
-pub mod Beside
-pub mod RowOrders
 pub mod HeldLaws
 pub mod InScope
