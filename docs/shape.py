@@ -13,7 +13,7 @@ ROOT = Path(__file__).resolve().parent.parent
 LONGEST_FILE = 500
 LONGEST_LINE = 120
 LONGEST_BODY = 40
-MOST_EDITS = 8
+MOST_EDITS = 10
 
 FUNCTION = re.compile(r"(\s*)(?:pub(?:\([a-z]+\))? )?(?:const )?fn (\w+)")
 PUBLIC_ITEM = re.compile(r"\s*pub (?:const |unsafe )*(fn|struct|enum|trait|type|const|static) (\w+)")

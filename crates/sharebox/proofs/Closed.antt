@@ -13,7 +13,7 @@ use Rattle.sx_turn.proofs.Lists.{prefix_self, longer_whole}
 use Rattle.sx_book.specs.OneHistory.{history_of}
 use Rattle.sx_book.specs.Passes.{PassView, caller_of, pass_pairs, after_meet, HasExactPlaces, OwnsAllNumbers, OwnsEachSeen}
 use Rattle.sx_book.specs.declared.report.ConnReport.{ConnReport}
-use Rattle.sx_smb_door.specs.Conversation.{Conversation, Visit}
+use Rattle.sx_smb_door.specs.Conversation.{SessionConversation, SessionVisit}
 use Rattle.sharebox.specs.Command.{Closes, IsServed, first_history, session_visit, loopback}
 use Rattle.sharebox.specs.Limits.{history_limit, input_budget, session_caller, status_after_close}
 use Rattle.sharebox.specs.Opening.{HasOpened}
@@ -70,7 +70,7 @@ status_with (Err fault) out report = refl
 pub served_own : {B C : Type 0} (closed : Result History B) (Q : B → Type 0) (out : B → ℕ) (ticks : C → ℕ → C → Type 0) (share : List ℕ) (wrote wrote' : List ℕ → Type 0) (office : TableId) (moment : ℕ) (c0 c1 c2 : C)
     (sides sides' : Sides) (main pass talked met : PassView) (report : ConnReport) (status : ℕ)
     → ticks c0 moment c1 → HasOpened office share moment main pass
-    → Conversation ticks wrote wrote' (record { who = pass.number; peer = loopback; budget = input_budget; history = history_of talked; from = length pass.seen }) (record { sides = sides; clock = c1 }) (record { sides = sides'; clock = c2 }) report
+    → SessionConversation ticks wrote wrote' (record { who = pass.number; peer = loopback; budget = input_budget; history = history_of talked; from = length pass.seen }) (record { sides = sides; clock = c1 }) (record { sides = sides'; clock = c2 }) report
     → IsPrefix pass.seen talked.seen × IsHistory talked.limit talked.seen
     → talked ≡ record pass { seen = talked.seen; mine = talked.mine } → met ≡ after_meet main talked → IfOk closed (λ b. b ≡ record { entries = met.seen; limit = met.limit }) → IfOk closed (λ _. IsAllMet met) → IfErr closed Q → ((f : B) → Q f → 1 ≤ out f) → status ≡ status_after_close closed report
     → IsServed ticks share wrote wrote' (record { sides = sides; clock = c0 }) (record { sides = sides'; clock = c2 }) status
@@ -79,7 +79,7 @@ served_own {B} {C} closed Q out ticks share wrote wrote' office moment c0 c1 c2 
     let limit : talked.limit ≡ history_limit = ap (λ (p : PassView). p.limit) kept ∙ pass_limit in
     let met_limit : met.limit ≡ history_limit = ap (λ (p : PassView). p.limit) met_is ∙ ap (λ (p : PassView). p.limit) o.main_is in
     let begins : IsPrefix (first_history share moment) talked.seen = subst (λ (l : List Noted). IsPrefix l talked.seen) (ap (λ (p : PassView). p.seen) o.pass_is) seen.0 in
-    let visit : (p : PassView) → ℕ → Visit = λ p n. record { who = p.number; peer = loopback; budget = input_budget; history = record { entries = talked.seen; limit = n }; from = length p.seen } in
+    let visit : (p : PassView) → ℕ → SessionVisit = λ p n. record { who = p.number; peer = loopback; budget = input_budget; history = record { entries = talked.seen; limit = n }; from = length p.seen } in
     let is : visit pass talked.limit ≡ session_visit talked.seen = ap (λ (x : PassView × ℕ). visit x.0 x.1) (λ j. (o.pass_is j, limit j)) in
     record {
       moment = moment;
@@ -88,7 +88,7 @@ served_own {B} {C} closed Q out ticks share wrote wrote' office moment c0 c1 c2 
       entries = talked.seen;
       history = record { opening = begins; legal = subst (λ (n : ℕ). IsHistory n talked.seen) limit seen.1 };
       report = report;
-      conversation = subst (λ (v : Visit). Conversation ticks wrote wrote' v (record { sides = sides; clock = c1 }) (record { sides = sides'; clock = c2 }) report) is talk;
+      conversation = subst (λ (v : SessionVisit). SessionConversation ticks wrote wrote' v (record { sides = sides; clock = c1 }) (record { sides = sides'; clock = c2 }) report) is talk;
       closed = closed_with out closed;
       closing = closes_by closed Q out met talked.seen met_limit (met_seen office share moment main pass talked met o seen.0 met_is)
           (λ (p : IsAllMet met). closed_own office share moment main pass talked met o kept seen.0 met_is p) some book owned left_out;

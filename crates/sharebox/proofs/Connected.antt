@@ -15,7 +15,7 @@ use Rattle.sx_book.specs.OneHistory.{history_of}
 use Rattle.sx_book.specs.Passes.{PassView, GrowsByOthers, caller_of, pass_pairs, after_meet, first_pass, new_pass, pass_after_look}
 use Rattle.sx_book.specs.declared.report.ConnReport.{ConnReport}
 use Rattle.sx_rest_door.specs.Asking.{KeepsHistory, own_places_behind}
-use Rattle.sx_rest_door.specs.Conversation.{Conversation, Visit}
+use Rattle.sx_rest_door.specs.Conversation.{RestConversation, RestVisit}
 use Rattle.sharebox.specs.Conn.{HasSplit, ClosesAll, ServesConn, conn_visit}
 use Rattle.sharebox.specs.Limits.{history_limit, session_caller, input_budget, status_after_close}
 use Rattle.sharebox.proofs.Closed.{IsAllMet, closed_with, status_with}
@@ -74,7 +74,7 @@ closes_by (Err fault) Q out met seen limit same own some is all err = some fault
 pub conn_own : {B C R : Type 0} (closed : Result History B) (Q : B → Type 0) (out : B → ℕ) (ticks : C → ℕ → C → Type 0) (draws : R → ℕ → R → Type 0) (account : Account) (wrote wrote' : List ℕ → Type 0) (office : TableId) (c1 c2 : C) (r1 r2 : R)
     (sides sides' : Sides) (main pass talked met : PassView) (report : ConnReport) (status : ℕ)
     → HasSplit office main pass
-    → Conversation ticks draws wrote wrote' (record { who = pass.number; account = account; budget = input_budget; history = history_of talked; from = length pass.seen }) (record { sides = sides; clock = c1; random = r1 }) (record { sides = sides'; clock = c2; random = r2 }) report
+    → RestConversation ticks draws wrote wrote' (record { who = pass.number; account = account; budget = input_budget; history = history_of talked; from = length pass.seen }) (record { sides = sides; clock = c1; random = r1 }) (record { sides = sides'; clock = c2; random = r2 }) report
     → KeepsHistory pass talked → talked ≡ record pass { seen = talked.seen; mine = pass.mine ++ own_places_behind pass talked.seen }
     → met ≡ after_meet main talked → IfOk closed (λ b. b ≡ record { entries = met.seen; limit = met.limit }) → IfOk closed (λ _. IsAllMet met) → IfErr closed Q → ((f : B) → Q f → 1 ≤ out f) → status ≡ status_after_close closed report
     → ServesConn ticks draws account wrote wrote' (record { sides = sides; clock = c1; random = r1 }) (record { sides = sides'; clock = c2; random = r2 }) status
@@ -84,13 +84,13 @@ conn_own {B} {C} {R} closed Q out ticks draws account wrote wrote' office c1 c2 
     let met_limit : met.limit ≡ history_limit = ap (λ (p : PassView). p.limit) met_is ∙ ap (λ (p : PassView). p.limit) o.main_is in
     let pass_seen : pass.seen ≡ [] = ap (λ (p : PassView). p.seen) o.pass_is in
     let legal : IsHistory talked.limit talked.seen = history.0 (subst (IsHistory pass.limit) (sym pass_seen) tt) in
-    let visit : (p : PassView) → ℕ → Visit = λ p n. record { who = p.number; account = account; budget = input_budget; history = record { entries = talked.seen; limit = n }; from = length p.seen } in
+    let visit : (p : PassView) → ℕ → RestVisit = λ p n. record { who = p.number; account = account; budget = input_budget; history = record { entries = talked.seen; limit = n }; from = length p.seen } in
     let is : visit pass talked.limit ≡ conn_visit account talked.seen = ap (λ (x : PassView × ℕ). visit x.0 x.1) (λ j. (o.pass_is j, limit j)) in
     record {
       entries = talked.seen;
       legal = subst (λ (n : ℕ). IsHistory n talked.seen) limit legal;
       report = report;
-      conversation = subst (λ (v : Visit). Conversation ticks draws wrote wrote' v (record { sides = sides; clock = c1; random = r1 }) (record { sides = sides'; clock = c2; random = r2 }) report) is talk;
+      conversation = subst (λ (v : RestVisit). RestConversation ticks draws wrote wrote' v (record { sides = sides; clock = c1; random = r1 }) (record { sides = sides'; clock = c2; random = r2 }) report) is talk;
       closed = closed_with out closed;
       closing = closes_by closed Q out met talked.seen met_limit (met_seen office main pass talked met o kept met_is)
           (λ (p : IsAllMet met). all_own office main pass talked met o kept met_is p) some book owned left_out;

@@ -14,12 +14,12 @@ use Rattle.sx_spec.specs.History.{IsHistory}
 use Rattle.sx_book.specs.History.{History}
 use Rattle.sx_book.specs.Passes.{with_noted}
 use Rattle.sx_book.specs.declared.report.ConnReport.{ConnReport}
-use Rattle.sx_rest_door.specs.Conversation.{LinkState as ConnLink}
+use Rattle.sx_rest_door.specs.Conversation.{RestLinkState}
 use Rattle.sx_run.specs.Crews.{Told}
 use Rattle.sx_run.specs.Doors.{Telling}
 use Rattle.sx_run.specs.Words.{IsServe, IsNoServe}
 use Rattle.sx_book.specs.Reports.{HasPrefix, HasText}
-use Rattle.sx_smb_door.specs.Conversation.{Conversation, LinkState, Visit}
+use Rattle.sx_smb_door.specs.Conversation.{SessionConversation, SessionLinkState, SessionVisit}
 use Rattle.sx_tool.specs.Tools.{Streams, Signs, Checks}
 use Rattle.sx_tool.specs.Typed.{IsSign, IsCheck, IsUnknown}
 use Rattle.sharebox.specs.declared.command.Command.{Command}
@@ -90,11 +90,11 @@ abbrev pub streams_of : {K C R L : Type 0} → Outside K C R L → Streams K
 streams_of o = record { sides = o.sides; out = o.out }
 
 -- the link of a session, with its clock
-abbrev pub link_of : {K C R L : Type 0} → Outside K C R L → LinkState C
+abbrev pub link_of : {K C R L : Type 0} → Outside K C R L → SessionLinkState C
 link_of o = record { sides = o.sides; clock = o.clock }
 
 -- the link of a connection, with its clock and random source
-abbrev pub conn_link_of : {K C R L : Type 0} → Outside K C R L → ConnLink C R
+abbrev pub conn_link_of : {K C R L : Type 0} → Outside K C R L → RestLinkState C R
 conn_link_of o = record { sides = o.sides; clock = o.clock; random = o.random }
 
 -- the words are no command: the refusal was written, or a prefix of it where the write failed; nothing was read
@@ -112,7 +112,7 @@ pub record LacksMemory {K C R L : Type 0} (old new : Outside K C R L) (status : 
   pub same : new ≡ old
 
 -- no memory was left before the session, or the office gave no pass for it: nothing was read or written
-pub record IsNotServed {C : Type 0} (wrote wrote' : List ℕ → Type 0) (old new : LinkState C) (status : ℕ)
+pub record IsNotServed {C : Type 0} (wrote wrote' : List ℕ → Type 0) (old new : SessionLinkState C) (status : ℕ)
     : Type 0 where
   pub status_is : status ≡ 5
   pub unread : new.sides ≡ old.sides
@@ -128,7 +128,7 @@ pub record IsProgramHistory (share : List ℕ) (moment : ℕ) (entries : List No
   pub legal : IsHistory history_limit entries
 
 -- the program's session in the history of these entries, of which it had seen the first
-abbrev pub session_visit : List Noted → Visit
+abbrev pub session_visit : List Noted → SessionVisit
 session_visit entries = record {
   who = session_caller;
   peer = loopback;
@@ -147,14 +147,14 @@ Closes (Err out) entries = 1 ≤ out
 
 -- the share was made at a moment, the session was served behind that, and the office closed, all in one history
 pub record IsServed {C : Type 0} (ticks : C → ℕ → C → Type 0) (share : List ℕ) (wrote wrote' : List ℕ → Type 0)
-    (old new : LinkState C) (status : ℕ) : Type 0 where
+    (old new : SessionLinkState C) (status : ℕ) : Type 0 where
   pub moment : ℕ
   pub began : C
   pub made : ticks old.clock moment began
   pub entries : List Noted
   pub history : IsProgramHistory share moment entries
   pub report : ConnReport
-  pub conversation : Conversation ticks wrote wrote' (session_visit entries) (record old { clock = began }) new
+  pub conversation : SessionConversation ticks wrote wrote' (session_visit entries) (record old { clock = began }) new
       report
   pub closed : Result History ℕ
   pub closing : Closes closed entries
@@ -162,7 +162,7 @@ pub record IsServed {C : Type 0} (ticks : C → ℕ → C → Type 0) (share : L
 
 -- what a session on a share does, with the share made before it
 abbrev pub IsSessionRun : {C : Type 0} → (C → ℕ → C → Type 0) → List ℕ → (List ℕ → Type 0) → (List ℕ → Type 0)
-    → LinkState C → LinkState C → ℕ → Type 0
+    → SessionLinkState C → SessionLinkState C → ℕ → Type 0
 IsSessionRun ticks share wrote wrote' old new status =
     IsNotServed wrote wrote' old new status ⊎ IsServed ticks share wrote wrote' old new status
 

@@ -8,7 +8,7 @@ use Rattle.sx_turn.specs.Seats.{TableId}
 use Rattle.sx_book.specs.History.{History}
 use Rattle.sx_book.specs.Passes.{PassView, first_pass, new_pass, pass_after_look}
 use Rattle.sx_book.specs.declared.report.ConnReport.{ConnReport}
-use Rattle.sx_rest_door.specs.Conversation.{Conversation, LinkState, Visit}
+use Rattle.sx_rest_door.specs.Conversation.{RestConversation, RestLinkState, RestVisit}
 use Rattle.sx_tool.specs.Typed.{IsAccount}
 use Rattle.sharebox.specs.declared.command.WordsFault.{WordsFault}
 use Rattle.sharebox.specs.declared.command.WordsFault.TheVariants.{Unknown, NoMemory}
@@ -37,7 +37,7 @@ pub record HasSplit (office : TableId) (main pass : PassView) : Type 0 where
   pub pass_is : pass ≡ new_pass main session_caller []
 
 -- the program's connection in the history of these entries
-abbrev pub conn_visit : Account → List Noted → Visit
+abbrev pub conn_visit : Account → List Noted → RestVisit
 conn_visit account entries = record {
   who = session_caller;
   account = account;
@@ -56,24 +56,24 @@ ClosesAll (Err out) entries = 1 ≤ out
 
 -- the connection was served and the office closed, all in one legal history
 pub record ServesConn {C R : Type 0} (ticks : C → ℕ → C → Type 0) (draws : R → ℕ → R → Type 0) (account : Account)
-    (wrote wrote' : List ℕ → Type 0) (old new : LinkState C R) (status : ℕ)
+    (wrote wrote' : List ℕ → Type 0) (old new : RestLinkState C R) (status : ℕ)
     : Type 0 where
   pub entries : List Noted
   pub legal : IsHistory history_limit entries
   pub report : ConnReport
-  pub conversation : Conversation ticks draws wrote wrote' (conn_visit account entries) old new report
+  pub conversation : RestConversation ticks draws wrote wrote' (conn_visit account entries) old new report
   pub closed : Result History ℕ
   pub closing : ClosesAll closed entries
   pub status_is : status ≡ status_after_close closed report
 
 -- no memory was left before the connection, or the office gave no pass for it: nothing was read or written
-pub record LacksConn {K C R : Type 0} (out out' : K) (old new : LinkState C R) (status : ℕ) : Type 0 where
+pub record LacksConn {K C R : Type 0} (out out' : K) (old new : RestLinkState C R) (status : ℕ) : Type 0 where
   pub status_is : status ≡ 5
   pub out_same : out' ≡ out
   pub same : new ≡ old
 
 -- what a connection of an account does
 abbrev pub IsConnRun : {K C R : Type 0} → (K → List ℕ → Type 0) → (C → ℕ → C → Type 0) → (R → ℕ → R → Type 0) → Account
-    → K → K → LinkState C R → LinkState C R → ℕ → Type 0
+    → K → K → RestLinkState C R → RestLinkState C R → ℕ → Type 0
 IsConnRun wrote ticks draws account out out' old new status =
     LacksConn out out' old new status ⊎ ServesConn ticks draws account (wrote out) (wrote out') old new status

@@ -4,7 +4,7 @@ ghost use mathlib.Core.List.{IsPrefix};
 ghost use Rattle.sx_book.specs.OneHistory.{history_of};
 ghost use Rattle.sx_book.specs.Passes.{first_pass};
 ghost use Rattle.sx_rest_door.specs.Asking.{KeepsHistory, own_places_behind};
-ghost use Rattle.sx_rest_door.specs.Conversation.{Conversation};
+ghost use Rattle.sx_rest_door.specs.Conversation.{RestConversation};
 ghost use Rattle.std.specs.Prelude.{◌++◌};
 ghost use Rattle.sharebox.specs.Conn.{HasSplit, IsConnRun};
 ghost use Rattle.sharebox.specs.Limits.{history_limit, input_budget};
@@ -48,7 +48,7 @@ fn serve_streams<W: Wait, S: Source, K: Sink, C: Clock, R: Random>(
     random: &mut R,
 ) -> ConnReport
     requires { pass.old.office ≡ office.now }
-    ensures conversation { Conversation C.ticks R.draws (K.wrote out.old) (K.wrote out.new)
+    ensures conversation { RestConversation C.ticks R.draws (K.wrote out.old) (K.wrote out.new)
         (record {
           who = pass.old.number;
           account = account.now;

@@ -8,7 +8,7 @@ ghost use Rattle.sx_spec.specs.History.{IsHistory};
 ghost use Rattle.sx_book.specs.OneHistory.{history_of};
 ghost use Rattle.sx_book.specs.Passes.{first_pass};
 ghost use Rattle.sx_book.specs.Reports.{HasPrefix, HasText};
-ghost use Rattle.sx_smb_door.specs.Conversation.{Conversation};
+ghost use Rattle.sx_smb_door.specs.Conversation.{SessionConversation};
 ghost use Rattle.sharebox.specs.Opening.{HasMade, HasOpened};
 ghost use Rattle.sharebox.specs.Command.{Runs, IsSessionRun, loopback, refusal_line};
 ghost use Rattle.sharebox.specs.Limits.{history_limit, input_budget, status_by_counts, status_of, status_after_close};
@@ -181,7 +181,7 @@ fn serve_streams<R: Wait, S: Source, K: Sink, C: Clock>(
     clock: &mut C,
 ) -> ConnReport
     requires { pass.old.office ≡ office.now }
-    ensures conversation { Conversation C.ticks (K.wrote out.old) (K.wrote out.new)
+    ensures conversation { SessionConversation C.ticks (K.wrote out.old) (K.wrote out.new)
         (record {
           who = pass.old.number;
           peer = loopback;

@@ -21,8 +21,8 @@ use Rattle.sx_reply.specs.PrintedReply.{is_printed, is_reply_printed}
 use Rattle.sx_reply.specs.declared.answer.Answer.{Answer}
 use Rattle.sx_reply.specs.declared.answer.Said.TheVariants.{Core, Stop as Stopped}
 use Rattle.sx_book.specs.Reports.{tally_with_stop}
-use Rattle.sx_rest_door.specs.Asking.{DoorState, DrawsFresh, IsAnswered, IsOutcomeOf, KeepsHistory}
-use Rattle.sx_rest_door.specs.Conversation.{called, call_with, fresh_of, moment_at}
+use Rattle.sx_rest_door.specs.Asking.{RestDoorState, DrawsFresh, IsRequestAnswered, IsOutcomeOf, KeepsHistory}
+use Rattle.sx_rest_door.specs.Conversation.{called, rest_call, fresh_of, moment_at}
 
 -- each reply to a call of the REST door can be printed
 abbrev pub PrintsRest : Type 0
@@ -83,16 +83,16 @@ none_keeps p = (λ h. h, λ h. h)
 pub keeps_join : (p q r : PassView) → KeepsHistory p q → KeepsHistory q r → KeepsHistory p r
 keeps_join p q r h k = (λ x. k.0 (h.0 x), λ x. k.1 (h.1 x))
 
-module _ {R : Type 0} (draws : R → ℕ → R → Type 0) (call : Call) (old new : DoorState R) (moment fresh : ℕ) (answer : Answer) where
+module _ {R : Type 0} (draws : R → ℕ → R → Type 0) (call : Call) (old new : RestDoorState R) (moment fresh : ℕ) (answer : Answer) where
   -- the call with its two words
-  worded : (first second : ℕ) (came : Came) → fresh ≡ fresh_of first second → Asks old.pass new.pass (call_with old.pass.number call moment fresh came ∷ [])
-      → Asks old.pass new.pass (call_with old.pass.number call moment (fresh_of first second) came ∷ [])
-  worded first second came e asks = subst (λ (n : ℕ). Asks old.pass new.pass (call_with old.pass.number call moment n came ∷ [])) e asks
+  worded : (first second : ℕ) (came : Came) → fresh ≡ fresh_of first second → Asks old.pass new.pass (rest_call old.pass.number call moment fresh came ∷ [])
+      → Asks old.pass new.pass (rest_call old.pass.number call moment (fresh_of first second) came ∷ [])
+  worded first second came e asks = subst (λ (n : ℕ). Asks old.pass new.pass (rest_call old.pass.number call moment n came ∷ [])) e asks
 
   -- a call that took a place
   pub appended_call : (r : Receipt) → is_reply_printed r.reply ≡ true → DrawsFresh draws old.random fresh new.random → Appends old.pass 0 moment fresh call r new.pass
       → new.tally ≡ record old.tally { asked = old.tally.asked + 1 } → answer ≡ record { place = r.place; at = r.at; said = Core r.reply }
-      → IsAnswered draws moment (IsOutcomeOf call) old new answer
+      → IsRequestAnswered draws moment (IsOutcomeOf call) old new answer
   appended_call r printed drawn took counted is = record {
     outcome = called call drawn.0 drawn.1 (appended r.place r.reply);
     told = r.at;
@@ -109,7 +109,7 @@ module _ {R : Type 0} (draws : R → ℕ → R → Type 0) (call : Call) (old ne
   -- a call that took none
   pub stopped_call : (s : Stop) → DrawsFresh draws old.random fresh new.random → AppendsNone old.pass call s new.pass
       → new.tally ≡ tally_with_stop (record old.tally { asked = old.tally.asked + 1 }) s → answer ≡ record { place = 0; at = moment; said = Stopped s }
-      → IsAnswered draws moment (IsOutcomeOf call) old new answer
+      → IsRequestAnswered draws moment (IsOutcomeOf call) old new answer
   stopped_call NoMemory drawn took counted is = record {
     outcome = called call drawn.0 drawn.1 no_memory;
     told = moment;

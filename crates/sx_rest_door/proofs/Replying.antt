@@ -9,18 +9,18 @@ use Rattle.sx_http.specs.declared.heads.Request.{Request}
 use Rattle.sx_key.specs.declared.account.Account.{Account}
 use Rattle.sx_book.specs.declared.report.ConnEnd.{ConnEnd}
 use Rattle.sx_book.specs.declared.report.ConnEnd.TheVariants as finish
-use Rattle.sx_rest_door.specs.Asking.{DoorState, TurnState, AnswersNext, Answers, HearsRefused, HearsEnd, IsTurn, Replies, end_behind, end_at}
+use Rattle.sx_rest_door.specs.Asking.{RestDoorState, TurnState, AnswersNext, AnswersOne, HearsRefused, HearsEnd, IsTurn, Replies, end_behind, end_at}
 use Rattle.sx_rest_door.specs.Conversation.{refusal_text}
 use Rattle.sx_rest_door.specs.declared.hearing.Unreadable.{Unreadable}
 
 -- what a turn may change, by the link's state
-abbrev pub turn_state : {K C R : Type 0} → (K → Option (List ℕ)) → (K → ℕ) → (K → ℕ) → Requests → C → DoorState R → K → TurnState C R
+abbrev pub turn_state : {K C R : Type 0} → (K → Option (List ℕ)) → (K → ℕ) → (K → ℕ) → Requests → C → RestDoorState R → K → TurnState C R
 turn_state left reads count r c d k = record { reader = r; clock = c; door = d; sides = record { left = left k; reads = reads k; writes = count k } }
 
 module _ {K C R : Type 0} (ticks : C → ℕ → C → Type 0) (draws : R → ℕ → R → Type 0) (account : Account) (wrote : K → List ℕ → Type 0) (count : K → ℕ) (puts : K → K → Type 0) (left : K → Option (List ℕ)) (reads : K → ℕ)
-    (k0 k1 k2 : K) (reader reader' : Requests) (c0 c1 : C) (old new : DoorState R) where
+    (k0 k1 k2 : K) (reader reader' : Requests) (c0 c1 : C) (old new : RestDoorState R) where
   answers : {E : Type 0} (request : Request) (moment : ℕ) (result : Result Bool E) → GivesRequest request reader reader' (left k0) (left k1) → reads k1 ≡ reads k0 → left k2 ≡ left k1 → reads k2 ≡ reads k1 → ticks c0 moment c1
-      → Replies wrote count puts draws account moment request old new k1 k2 result → Answers ticks draws account (turn_state left reads count reader c0 old k0) (turn_state left reads count reader' c1 new k2)
+      → Replies wrote count puts draws account moment request old new k1 k2 result → AnswersOne ticks draws account (turn_state left reads count reader c0 old k0) (turn_state left reads count reader' c1 new k2)
   answers request moment result gives read rest kept ticked replies = record {
     request = request;
     moment = moment;

@@ -25,18 +25,18 @@ use Rattle.sx_book.proofs.Calls.{asks_none, asks_join}
 use Rattle.sx_reply.specs.declared.answer.Answer.{Answer}
 use Rattle.sx_reply.specs.declared.answer.Said.{Said}
 use Rattle.sx_reply.specs.PrintedReply.{is_printed}
-use Rattle.sx_rest_door.specs.Asking.{DoorState, IsAnswered, IsOutcomeOf, KeepsHistory, said_uncalled, tally_uncalled}
+use Rattle.sx_rest_door.specs.Asking.{RestDoorState, IsRequestAnswered, IsOutcomeOf, KeepsHistory, said_uncalled, tally_uncalled}
 use Rattle.sx_rest_door.specs.Asking.{IsJudged}
 use Rattle.sx_book.specs.Reports.{no_tally}
-use Rattle.sx_rest_door.specs.Conversation.{RequestOutcome, not_signed, no_call, not_read, called, AnsweredRequest, ComesTo, TellsMoment, IsAnsweredRequest, moment_at, calls_in, calls_of, words_in, words_of, tally_after, tally_after_all, request_bytes}
+use Rattle.sx_rest_door.specs.Conversation.{RequestOutcome, not_signed, no_call, not_read, called, AnsweredRequest, ComesTo, TellsMoment, IsAnsweredRequest, moment_at, calls_in_request, calls_of_requests, words_in, words_of, tally_after_request, tally_after_requests, request_bytes}
 use Rattle.sx_rest_door.specs.declared.judging.Uncalled.{Uncalled}
 use Rattle.sx_rest_door.specs.declared.judging.Uncalled.TheVariants.{NotSigned, NoCall, NotRead}
 use Rattle.sx_book.specs.declared.report.Tally.{Tally}
 use Rattle.sx_rest_door.proofs.Asks.{none_keeps, keeps_join}
 
-pub tally_more : (limit : ℕ) (tally : Tally) (ts : List AnsweredRequest) (t : AnsweredRequest) → tally_after_all limit tally (ts ++ t ∷ []) ≡ tally_after limit (tally_after_all limit tally ts) t.outcome
+pub tally_more : (limit : ℕ) (tally : Tally) (ts : List AnsweredRequest) (t : AnsweredRequest) → tally_after_requests limit tally (ts ++ t ∷ []) ≡ tally_after_request limit (tally_after_requests limit tally ts) t.outcome
 tally_more limit tally [] t = refl
-tally_more limit tally (u ∷ ts) t = tally_more limit (tally_after limit tally u.outcome) ts t
+tally_more limit tally (u ∷ ts) t = tally_more limit (tally_after_request limit tally u.outcome) ts t
 
 pub flat_more : {A : Type 0} (f : AnsweredRequest → List A) (ts : List AnsweredRequest) (t : AnsweredRequest) → flat_map f (ts ++ t ∷ []) ≡ flat_map f ts ++ f t
 flat_more {A} f ts t = flat_map-append f ts (t ∷ []) ∙ ap (λ (xs : List A). flat_map f ts ++ xs) (append-nil (f t))
@@ -88,20 +88,20 @@ request_long bytes r is =
 
 -- ---- the requests so far
 -- the requests that were answered so far, from one stream and state to another
-pub record Going {C R : Type 0} (ticks : C → ℕ → C → Type 0) (draws : R → ℕ → R → Type 0) (account : Account) (stream stream' : Option (List ℕ)) (clock clock' : C) (old new : DoorState R) (given : ℕ) : Type 0 where
+pub record Going {C R : Type 0} (ticks : C → ℕ → C → Type 0) (draws : R → ℕ → R → Type 0) (account : Account) (stream stream' : Option (List ℕ)) (clock clock' : C) (old new : RestDoorState R) (given : ℕ) : Type 0 where
   pub turns : List AnsweredRequest
   pub requests : AllByRecursion (IsAnsweredRequest account (history_of new.pass)) turns
   pub bytes : Consumes stream stream' (request_bytes turns)
   pub given_is : given ≡ length (request_bytes turns)
-  pub calls : Asks old.pass new.pass (calls_of old.pass.number turns)
+  pub calls : Asks old.pass new.pass (calls_of_requests old.pass.number turns)
   pub history : KeepsHistory old.pass new.pass
-  pub tallied : new.tally ≡ tally_after_all old.pass.limit no_tally turns
+  pub tallied : new.tally ≡ tally_after_requests old.pass.limit no_tally turns
   pub moments : StepsThrough ticks clock (map (λ (u : AnsweredRequest). u.moment) turns) clock'
   pub words : StepsThrough draws old.random (words_of turns) new.random
 
 module _ {C R : Type 0} (ticks : C → ℕ → C → Type 0) (draws : R → ℕ → R → Type 0) (account : Account) where
   -- no request yet
-  unfoldable pub going_none : (stream : Option (List ℕ)) (clock : C) (s : DoorState R) (given : ℕ) → s.tally ≡ no_tally → given ≡ 0 → Going ticks draws account stream stream clock clock s s given
+  unfoldable pub going_none : (stream : Option (List ℕ)) (clock : C) (s : RestDoorState R) (given : ℕ) → s.tally ≡ no_tally → given ≡ 0 → Going ticks draws account stream stream clock clock s s given
   going_none stream clock s given none start = record {
     turns = [];
     requests = tt;
@@ -115,37 +115,37 @@ module _ {C R : Type 0} (ticks : C → ℕ → C → Type 0) (draws : R → ℕ 
   }
 
   -- the request that was answered
-  abbrev pub turn_of : {Comes : RequestOutcome → Type 0} (bytes : List ℕ) (r : Request) (moment : ℕ) (b c : DoorState R) (answer : Answer) → IsAnswered draws moment Comes b c answer → AnsweredRequest
+  abbrev pub turn_of : {Comes : RequestOutcome → Type 0} (bytes : List ℕ) (r : Request) (moment : ℕ) (b c : RestDoorState R) (answer : Answer) → IsRequestAnswered draws moment Comes b c answer → AnsweredRequest
   turn_of bytes r moment b c answer a = record { bytes = bytes; request = r; moment = moment; outcome = a.outcome; told = a.told }
 
   -- the requests with one more
-  unfoldable pub going_more : (s0 s1 s2 : Option (List ℕ)) (c0 c1 c2 : C) (a b c : DoorState R) (k1 k2 : ℕ) (bytes : List ℕ) (r : Request) (moment : ℕ) (answer : Answer)
+  unfoldable pub going_more : (s0 s1 s2 : Option (List ℕ)) (c0 c1 c2 : C) (a b c : RestDoorState R) (k1 k2 : ℕ) (bytes : List ℕ) (r : Request) (moment : ℕ) (answer : Answer)
       → Going ticks draws account s0 s1 c0 c1 a b k1 → IsRequest bytes r → Consumes s1 s2 bytes → k2 ≡ k1 + length bytes → ticks c1 moment c2
-      → IsAnswered draws moment (ComesTo account r moment) b c answer → Going ticks draws account s0 s2 c0 c2 a c k2
+      → IsRequestAnswered draws moment (ComesTo account r moment) b c answer → Going ticks draws account s0 s2 c0 c2 a c k2
   going_more s0 s1 s2 c0 c1 c2 a b c k1 k2 bytes r moment answer g is taken count ticked last =
       let t : AnsweredRequest = record { bytes = bytes; request = r; moment = moment; outcome = last.outcome; told = last.told } in
       let who : b.pass.number ≡ a.pass.number = ap (λ (p : PassView). p.number) g.calls.pass in
       let limit : b.pass.limit ≡ a.pass.limit = ap (λ (p : PassView). p.limit) g.calls.pass in
       let all : request_bytes (g.turns ++ t ∷ []) ≡ request_bytes g.turns ++ bytes = flat_more (λ (u : AnsweredRequest). u.bytes) g.turns t in
-      let calls : calls_of a.pass.number (g.turns ++ t ∷ []) ≡ calls_of a.pass.number g.turns ++ calls_in a.pass.number moment last.outcome = flat_more (λ (u : AnsweredRequest). calls_in a.pass.number u.moment u.outcome) g.turns t in
-      let asked : Asks b.pass c.pass (calls_in a.pass.number moment last.outcome) = subst (λ (n : ℕ). Asks b.pass c.pass (calls_in n moment last.outcome)) who last.calls in
+      let calls : calls_of_requests a.pass.number (g.turns ++ t ∷ []) ≡ calls_of_requests a.pass.number g.turns ++ calls_in_request a.pass.number moment last.outcome = flat_more (λ (u : AnsweredRequest). calls_in_request a.pass.number u.moment u.outcome) g.turns t in
+      let asked : Asks b.pass c.pass (calls_in_request a.pass.number moment last.outcome) = subst (λ (n : ℕ). Asks b.pass c.pass (calls_in_request n moment last.outcome)) who last.calls in
       let words : words_of (g.turns ++ t ∷ []) ≡ words_of g.turns ++ words_in last.outcome = flat_more (λ (u : AnsweredRequest). words_in u.outcome) g.turns t in
       record {
         turns = g.turns ++ t ∷ [];
         requests = each_snoc _ g.turns t (answered_more account b.pass c.pass _ last.calls g.turns g.requests) (record { is = is; comes = last.comes; tells = last.tells });
         bytes = subst (Consumes s0 s2) (sym all) (consumes_more s0 s1 s2 (request_bytes g.turns) bytes g.bytes taken);
         given_is = omega (arith, count, g.given_is, ap length all, length-append (request_bytes g.turns) bytes);
-        calls = subst (Asks a.pass c.pass) (sym calls) (asks_join a.pass b.pass c.pass (calls_of a.pass.number g.turns) (calls_in a.pass.number moment last.outcome) g.calls asked);
+        calls = subst (Asks a.pass c.pass) (sym calls) (asks_join a.pass b.pass c.pass (calls_of_requests a.pass.number g.turns) (calls_in_request a.pass.number moment last.outcome) g.calls asked);
         history = keeps_join a.pass b.pass c.pass g.history last.history;
-        tallied = last.tallied ∙ (ap (λ (n : ℕ). tally_after n b.tally last.outcome) limit ∙ (ap (λ (x : Tally). tally_after a.pass.limit x last.outcome) g.tallied ∙ sym (tally_more a.pass.limit no_tally g.turns t)));
+        tallied = last.tallied ∙ (ap (λ (n : ℕ). tally_after_request n b.tally last.outcome) limit ∙ (ap (λ (x : Tally). tally_after_request a.pass.limit x last.outcome) g.tallied ∙ sym (tally_more a.pass.limit no_tally g.turns t)));
         moments = subst (λ (ms : List ℕ). StepsThrough ticks c0 ms c2) (sym (moments_more g.turns t)) (steps_append ticks c0 c1 c2 (map (λ (u : AnsweredRequest). u.moment) g.turns) (moment ∷ []) g.moments (c2, ticked, refl));
         words = subst (λ (ws : List ℕ). StepsThrough draws a.random ws c.random) (sym words) (steps_append draws a.random b.random c.random (words_of g.turns) (words_in last.outcome) g.words last.drawn);
       }
 
 -- ---- the answers to a request
 -- the call that it spells was asked
-pub asked_request : {R : Type 0} (draws : R → ℕ → R → Type 0) (account : Account) (r : Request) (moment : ℕ) (call : Call) (old new : DoorState R) (answer : Answer)
-    → (auth r.head account moment ≡ Ok tt) × (reading r ≡ Ok call) → IsAnswered draws moment (IsOutcomeOf call) old new answer → IsAnswered draws moment (ComesTo account r moment) old new answer
+pub asked_request : {R : Type 0} (draws : R → ℕ → R → Type 0) (account : Account) (r : Request) (moment : ℕ) (call : Call) (old new : RestDoorState R) (answer : Answer)
+    → (auth r.head account moment ≡ Ok tt) × (reading r ≡ Ok call) → IsRequestAnswered draws moment (IsOutcomeOf call) old new answer → IsRequestAnswered draws moment (ComesTo account r moment) old new answer
 asked_request {R} draws account r moment call old new answer judged a = record {
   outcome = a.outcome;
   told = a.told;
@@ -162,7 +162,7 @@ asked_request {R} draws account r moment call old new answer judged a = record {
 -- a request without a call
 pub refused_request : {R : Type 0} (draws : R → ℕ → R → Type 0) (account : Account) (r : Request) (moment : ℕ) (why : Uncalled) (pass : PassView) (random : R) (tally tally' : Tally) (answer : Answer)
     → IsJudged account r moment (Err why) → tally' ≡ tally_uncalled tally why → answer ≡ record { place = 0; at = moment; said = said_uncalled why }
-    → IsAnswered draws moment (ComesTo account r moment) (record { pass = pass; random = random; tally = tally }) (record { pass = pass; random = random; tally = tally' }) answer
+    → IsRequestAnswered draws moment (ComesTo account r moment) (record { pass = pass; random = random; tally = tally }) (record { pass = pass; random = random; tally = tally' }) answer
 refused_request {R} draws account r moment (NotSigned text) pass random tally tally' answer judged counted is = record {
   outcome = not_signed text;
   told = moment;
@@ -201,7 +201,7 @@ refused_request {R} draws account r moment NotRead pass random tally tally' answ
 }
 
 -- an outcome counts at most one call
-pub asked_after : (limit : ℕ) (t : Tally) (o : RequestOutcome) → (tally_after limit t o).asked ≤ t.asked + 1
+pub asked_after : (limit : ℕ) (t : Tally) (o : RequestOutcome) → (tally_after_request limit t o).asked ≤ t.asked + 1
 asked_after limit t (not_signed text) = omega arith
 asked_after limit t (no_call syntax) = omega arith
 asked_after limit t not_read = omega arith

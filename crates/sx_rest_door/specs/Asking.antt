@@ -32,9 +32,10 @@ use Rattle.sx_reply.specs.declared.answer.Said.TheVariants.{Auth, Syntax as Unsp
 use Rattle.sx_rest_door.specs.Closing.{closes, shape_of}
 use Rattle.sx_book.specs.Reports.{HasPrefix, HasText, no_tally}
 use Rattle.sx_rest_door.specs.Conversation.{RefusedRequest, refusal_text}
-use Rattle.sx_rest_door.specs.Conversation.{RequestOutcome, called, Talk, ComesTo, TellsMoment, fault_of}
-use Rattle.sx_rest_door.specs.Conversation.{fresh_of, call_with, calls_in, calls_of, words_in, words_of, answer_of}
-use Rattle.sx_rest_door.specs.Conversation.{unreadable_of, tally_after, tally_after_all, moments_in}
+use Rattle.sx_rest_door.specs.Conversation.{RequestOutcome, called, RestTalk, ComesTo, TellsMoment, fault_of}
+use Rattle.sx_rest_door.specs.Conversation.{fresh_of, rest_call, calls_in_request, calls_of_requests, words_in}
+use Rattle.sx_rest_door.specs.Conversation.{words_of, request_answer}
+use Rattle.sx_rest_door.specs.Conversation.{unreadable_of, tally_after_request, tally_after_requests, moments_in}
 use Rattle.sx_rest_door.specs.declared.hearing.Heard.{Heard}
 use Rattle.sx_rest_door.specs.declared.hearing.Heard.TheVariants.{Asks as Hears, Refuses, Ends}
 use Rattle.sx_rest_door.specs.declared.hearing.Unreadable.{Unreadable}
@@ -43,7 +44,7 @@ use Rattle.sx_rest_door.specs.declared.judging.Uncalled.TheVariants.{NotSigned, 
 use Rattle.sx_book.specs.declared.report.Tally.{Tally}
 
 -- a connection's pass, its random source and its counts, before or after a call
-pub record DoorState (R : Type 0) : Type 0 where
+pub record RestDoorState (R : Type 0) : Type 0 where
   pub pass : PassView
   pub random : R
   pub tally : Tally
@@ -117,18 +118,18 @@ tally_uncalled t NotRead = record t { no_memory = true }
 
 -- a request was answered at a moment: what came of it, the moment that its answer tells, and what that left of pass,
 -- random source and counts; the answer can be printed
-pub record IsAnswered {R : Type 0} (draws : R → ℕ → R → Type 0) (moment : ℕ)
-    (Comes : RequestOutcome → Type 0) (old new : DoorState R) (answer : Answer)
+pub record IsRequestAnswered {R : Type 0} (draws : R → ℕ → R → Type 0) (moment : ℕ)
+    (Comes : RequestOutcome → Type 0) (old new : RestDoorState R) (answer : Answer)
     : Type 0 where
   pub outcome : RequestOutcome
   pub told : ℕ
   pub comes : Comes outcome
   pub tells : TellsMoment (history_of new.pass) moment outcome told
-  pub calls : Asks old.pass new.pass (calls_in old.pass.number moment outcome)
+  pub calls : Asks old.pass new.pass (calls_in_request old.pass.number moment outcome)
   pub history : KeepsHistory old.pass new.pass
   pub drawn : StepsThrough draws old.random (words_in outcome) new.random
-  pub tallied : new.tally ≡ tally_after old.pass.limit old.tally outcome
-  pub answer_is : answer ≡ answer_of old.pass.limit outcome told
+  pub tallied : new.tally ≡ tally_after_request old.pass.limit old.tally outcome
+  pub answer_is : answer ≡ request_answer old.pass.limit outcome told
   pub printed : is_printed answer.said ≡ true
 
 -- the outcome is that of this call
@@ -139,14 +140,14 @@ IsOutcomeOf call outcome =
 -- a request was taken off the link and answered at a moment of the clock, by a reader, a clock, pass, random source and
 -- counts, and the link's sides, before and after
 pub record AnswersNext {C R : Type 0} (ticks : C → ℕ → C → Type 0) (draws : R → ℕ → R → Type 0) (account : Account)
-    (reader reader' : Requests) (clock clock' : C) (old new : DoorState R) (sides sides' : Sides)
+    (reader reader' : Requests) (clock clock' : C) (old new : RestDoorState R) (sides sides' : Sides)
     : Type 0 where
   pub request : Request
   pub moment : ℕ
   pub answer : Answer
   pub gives : GivesRequest request reader reader' sides.left sides'.left
   pub ticked : ticks clock moment clock'
-  pub answered : IsAnswered draws moment (ComesTo account request moment) old new answer
+  pub answered : IsRequestAnswered draws moment (ComesTo account request moment) old new answer
   pub reads : sides'.reads ≡ sides.reads
 
 -- a request that can't be read stood next, and was answered at a moment of the clock
@@ -161,13 +162,13 @@ pub record RefusesNext {C : Type 0} (ticks : C → ℕ → C → Type 0) (reader
 pub record TurnState (C R : Type 0) : Type 0 where
   pub reader : Requests
   pub clock : C
-  pub door : DoorState R
+  pub door : RestDoorState R
   pub sides : Sides
 
 -- in a turn a request was answered
-abbrev pub Answers : {C R : Type 0} → (C → ℕ → C → Type 0) → (R → ℕ → R → Type 0) → Account → TurnState C R
+abbrev pub AnswersOne : {C R : Type 0} → (C → ℕ → C → Type 0) → (R → ℕ → R → Type 0) → Account → TurnState C R
     → TurnState C R → Type 0
-Answers ticks draws account old new =
+AnswersOne ticks draws account old new =
     AnswersNext ticks draws account old.reader new.reader old.clock new.clock old.door new.door old.sides new.sides
 
 -- in a turn a request that can't be read was answered, and no call was asked
@@ -179,17 +180,18 @@ RefusesOne ticks old new =
 abbrev pub IsTurn : {C R : Type 0} → Option ConnEnd → (C → ℕ → C → Type 0) → (R → ℕ → R → Type 0) → Account
     → (List ℕ → Type 0) → (List ℕ → Type 0) → TurnState C R → TurnState C R → Type 0
 IsTurn None ticks draws account wrote wrote' old new =
-    (t : Answers ticks draws account old new) × (closes t.request.head ≡ false)
+    (t : AnswersOne ticks draws account old new) × (closes t.request.head ≡ false)
     × HasText wrote wrote' (printed t.answer (shape_of t.request.head)) × (new.sides.writes ≡ old.sides.writes)
 IsTurn (Some (finish.Closed None)) ticks draws account wrote wrote' old new =
-    (t : Answers ticks draws account old new) × (closes t.request.head ≡ true)
+    (t : AnswersOne ticks draws account old new) × (closes t.request.head ≡ true)
     × HasText wrote wrote' (printed t.answer (shape_of t.request.head)) × (new.sides.writes ≡ old.sides.writes)
 IsTurn (Some (finish.Closed (Some at))) ticks draws account wrote wrote' old new =
     (t : RefusesOne ticks old new) × (at ≡ t.0.refused.why.at)
     × HasText wrote wrote' (refusal_text t.0.refused) × (new.sides.writes ≡ old.sides.writes)
 IsTurn (Some finish.WriteFault) ticks draws account wrote wrote' old new =
     Rose old.sides.writes new.sides.writes
-    × (((t : Answers ticks draws account old new) × HasPrefix wrote wrote' (printed t.answer (shape_of t.request.head)))
+    × (((t : AnswersOne ticks draws account old new)
+    × HasPrefix wrote wrote' (printed t.answer (shape_of t.request.head)))
     ⊎ ((t : RefusesOne ticks old new) × HasPrefix wrote wrote' (refusal_text t.0.refused)))
 IsTurn (Some end) ticks draws account wrote wrote' old new =
     HearsEnd end old.reader new.reader old.sides.left new.sides.left old.sides.reads new.sides.reads
@@ -210,21 +212,21 @@ end_at (Err failed) at = finish.WriteFault
 -- a request was answered, and its answer printed, or a prefix of it where the sink failed; what is answered tells
 -- whether the connection closes behind it
 pub record Replies {K R E : Type 0} (wrote : K → List ℕ → Type 0) (count : K → ℕ) (puts : K → K → Type 0)
-    (draws : R → ℕ → R → Type 0) (account : Account) (moment : ℕ) (request : Request) (old new : DoorState R)
+    (draws : R → ℕ → R → Type 0) (account : Account) (moment : ℕ) (request : Request) (old new : RestDoorState R)
     (sink sink' : K) (result : Result Bool E)
     : Type 0 where
   pub answer : Answer
-  pub answered : IsAnswered draws moment (ComesTo account request moment) old new answer
+  pub answered : IsRequestAnswered draws moment (ComesTo account request moment) old new answer
   pub printed_so : Prints wrote count puts sink sink' (printed answer (shape_of request.head)) result
   pub closing : IfOk result (λ close. close ≡ closes request.head)
 
 -- the requests of a caller were answered: their calls, the moments that the clock told for them, the random words that
 -- were drawn, and the counts
-pub record IsServed {C R : Type 0} (ticks : C → ℕ → C → Type 0) (draws : R → ℕ → R → Type 0) (talk : Talk)
-    (clock clock' : C) (old new : DoorState R)
+pub record AreRequestsServed {C R : Type 0} (ticks : C → ℕ → C → Type 0) (draws : R → ℕ → R → Type 0) (talk : RestTalk)
+    (clock clock' : C) (old new : RestDoorState R)
     : Type 0 where
-  pub calls : Asks old.pass new.pass (calls_of old.pass.number talk.turns)
+  pub calls : Asks old.pass new.pass (calls_of_requests old.pass.number talk.turns)
   pub history : KeepsHistory old.pass new.pass
   pub moments : StepsThrough ticks clock (moments_in talk) clock'
   pub words : StepsThrough draws old.random (words_of talk.turns) new.random
-  pub tallied : new.tally ≡ tally_after_all old.pass.limit no_tally talk.turns
+  pub tallied : new.tally ≡ tally_after_requests old.pass.limit no_tally talk.turns

@@ -101,20 +101,21 @@ abbrev pub fresh_of : ℕ → ℕ → ℕ
 fresh_of first second = first * 2 ^ 64 + second
 
 -- a REST call and what it came to; it stands in no session
-abbrev pub call_with : ℕ → Call → ℕ → ℕ → Came → Outcome
-call_with who call moment fresh came =
+abbrev pub rest_call : ℕ → Call → ℕ → ℕ → Came → Outcome
+rest_call who call moment fresh came =
     record { asked = record { who = who; session = 0; call = call; now = moment; fresh = fresh }; came = came }
 
 -- the call of a request, if it was asked
-abbrev pub calls_in : ℕ → ℕ → RequestOutcome → List Outcome
-calls_in who moment (not_signed text) = []
-calls_in who moment (no_call syntax) = []
-calls_in who moment not_read = []
-calls_in who moment (called call first second came) = call_with who call moment (fresh_of first second) came ∷ []
+abbrev pub calls_in_request : ℕ → ℕ → RequestOutcome → List Outcome
+calls_in_request who moment (not_signed text) = []
+calls_in_request who moment (no_call syntax) = []
+calls_in_request who moment not_read = []
+calls_in_request who moment (called call first second came) =
+    rest_call who call moment (fresh_of first second) came ∷ []
 
 -- the calls of requests
-abbrev pub calls_of : ℕ → List AnsweredRequest → List Outcome
-calls_of who ts = flat_map (λ t. calls_in who t.moment t.outcome) ts
+abbrev pub calls_of_requests : ℕ → List AnsweredRequest → List Outcome
+calls_of_requests who ts = flat_map (λ t. calls_in_request who t.moment t.outcome) ts
 
 -- the random words that were drawn for a request: two for each call that was asked
 abbrev pub words_in : RequestOutcome → List ℕ
@@ -154,32 +155,32 @@ place_told not_read = 0
 place_told (called call first second came) = place_or_0 came
 
 -- the answer to a request of this outcome, which tells this moment
-abbrev pub answer_of : ℕ → RequestOutcome → ℕ → Answer
-answer_of limit outcome told = record { place = place_told outcome; at = told; said = said_of limit outcome }
+abbrev pub request_answer : ℕ → RequestOutcome → ℕ → Answer
+request_answer limit outcome told = record { place = place_told outcome; at = told; said = said_of limit outcome }
 
 -- the printed answer to a request
 abbrev pub answer_text : ℕ → AnsweredRequest → List ℕ
-answer_text limit t = printed (answer_of limit t.outcome t.told) (shape_of t.request.head)
+answer_text limit t = printed (request_answer limit t.outcome t.told) (shape_of t.request.head)
 
 -- the printed answers to requests
-abbrev pub answers_to : ℕ → List AnsweredRequest → List ℕ
-answers_to limit ts = flat_map (answer_text limit) ts
+abbrev pub request_answers : ℕ → List AnsweredRequest → List ℕ
+request_answers limit ts = flat_map (answer_text limit) ts
 
 -- the bytes of the requests
 abbrev pub request_bytes : List AnsweredRequest → List ℕ
 request_bytes ts = flat_map (λ (t : AnsweredRequest). t.bytes) ts
 
 -- what a report counts, after a request
-abbrev pub tally_after : ℕ → Tally → RequestOutcome → Tally
-tally_after limit t (not_signed text) = t
-tally_after limit t (no_call syntax) = t
-tally_after limit t not_read = record t { no_memory = true }
-tally_after limit t (called call first second came) = tally_with limit (record t { asked = t.asked + 1 }) came
+abbrev pub tally_after_request : ℕ → Tally → RequestOutcome → Tally
+tally_after_request limit t (not_signed text) = t
+tally_after_request limit t (no_call syntax) = t
+tally_after_request limit t not_read = record t { no_memory = true }
+tally_after_request limit t (called call first second came) = tally_with limit (record t { asked = t.asked + 1 }) came
 
 -- what a report counts, after requests
-abbrev pub tally_after_all : ℕ → Tally → List AnsweredRequest → Tally
-tally_after_all limit tally [] = tally
-tally_after_all limit tally (t ∷ ts) = tally_after_all limit (tally_after limit tally t.outcome) ts
+abbrev pub tally_after_requests : ℕ → Tally → List AnsweredRequest → Tally
+tally_after_requests limit tally [] = tally
+tally_after_requests limit tally (t ∷ ts) = tally_after_requests limit (tally_after_request limit tally t.outcome) ts
 
 -- what is told of a request that is over a limit
 abbrev pub long_text : Long → ℕ → WireText
@@ -222,7 +223,7 @@ moment_behind (Some r) = r.moment ∷ []
 -- what was said on a connection: the requests that were answered, the one behind them that can't be read, if one came,
 -- how many bytes the requests have, how they ended, what the link had left behind them, and which bytes of that were
 -- taken and not given
-pub record Talk : Type 0 where
+pub record RestTalk : Type 0 where
   pub turns : List AnsweredRequest
   pub refused : Option RefusedRequest
   pub given : ℕ
@@ -231,12 +232,12 @@ pub record Talk : Type 0 where
   pub held : List ℕ
 
 -- the moments that the clock told: one for each request, and one for that which can't be read
-abbrev pub moments_in : Talk → List ℕ
+abbrev pub moments_in : RestTalk → List ℕ
 moments_in t = map (λ (u : AnsweredRequest). u.moment) t.turns ++ moment_behind t.refused
 
 -- the requests were taken off the link, and what was taken in all is within the budget: what the link had left behind
 -- the requests is what was taken of it and not given, and what it has left
-pub record TakesRequests (budget : ℕ) (t : Talk) (old new : Sides) : Type 0 where
+pub record TakesRequests (budget : ℕ) (t : RestTalk) (old new : Sides) : Type 0 where
   pub requests : Consumes old.left t.rest (request_bytes t.turns)
   pub given_is : t.given ≡ length (request_bytes t.turns)
   pub unread : Keeps t.rest (prepend_known t.held new.left)
@@ -244,33 +245,33 @@ pub record TakesRequests (budget : ℕ) (t : Talk) (old new : Sides) : Type 0 wh
 
 -- this answer of a reader holds of what stands behind the requests: of what was taken of it, and of as much of it as
 -- the budget lets be taken
-abbrev pub Follows : Next → ℕ → Talk → Type 0
+abbrev pub Follows : Next → ℕ → RestTalk → Type 0
 Follows answer budget t = Because answer t.given (budget - t.given) t.held t.rest
 
 -- behind the requests stands one that can't be read, for what was told
-pub record IsRefused (budget : ℕ) (t : Talk) (r : RefusedRequest) : Type 0 where
+pub record IsRequestRefused (budget : ℕ) (t : RestTalk) (r : RefusedRequest) : Type 0 where
   pub answer : Next
   pub told : unreadable_of answer ≡ Some r.why
   pub follows : Follows answer budget t
 
 -- the connection closed at a request that can't be read, which begins at this byte
-abbrev pub ClosesAt : ℕ → ℕ → Talk → Option RefusedRequest → Type 0
+abbrev pub ClosesAt : ℕ → ℕ → RestTalk → Option RefusedRequest → Type 0
 ClosesAt at budget t None = ⊥
-ClosesAt at budget t (Some r) = IsRefused budget t r × (at ≡ t.given)
+ClosesAt at budget t (Some r) = IsRequestRefused budget t r × (at ≡ t.given)
 
 -- why no further request was answered, by what was left behind the requests and held of it, the budget, and the link's
 -- counts of failed reads and puts
-abbrev pub IsEnd : ConnEnd → ℕ → Talk → Sides → Sides → Type 0
-IsEnd finish.Ended budget t old new = Follows next.End budget t × (t.refused ≡ None)
-IsEnd (finish.Closed None) budget t old new = t.refused ≡ None
-IsEnd (finish.Closed (Some at)) budget t old new = ClosesAt at budget t t.refused
-IsEnd (finish.Cut left) budget t old new = Follows (next.Cut left) budget t × (t.refused ≡ None)
-IsEnd finish.Spent budget t old new = Follows next.Spent budget t × (t.refused ≡ None)
-IsEnd finish.ReadFault budget t old new =
+abbrev pub IsRestEnd : ConnEnd → ℕ → RestTalk → Sides → Sides → Type 0
+IsRestEnd finish.Ended budget t old new = Follows next.End budget t × (t.refused ≡ None)
+IsRestEnd (finish.Closed None) budget t old new = t.refused ≡ None
+IsRestEnd (finish.Closed (Some at)) budget t old new = ClosesAt at budget t t.refused
+IsRestEnd (finish.Cut left) budget t old new = Follows (next.Cut left) budget t × (t.refused ≡ None)
+IsRestEnd finish.Spent budget t old new = Follows next.Spent budget t × (t.refused ≡ None)
+IsRestEnd finish.ReadFault budget t old new =
     Rose old.reads new.reads × Follows next.ReadFault budget t × (t.refused ≡ None)
-IsEnd finish.WriteFault budget t old new = Rose old.writes new.writes × IfSome t.refused (IsRefused budget t)
-IsEnd (finish.Full full) budget t old new = ⊥
-IsEnd finish.NoMemory budget t old new = t.refused ≡ None
+IsRestEnd finish.WriteFault budget t old new = Rose old.writes new.writes × IfSome t.refused (IsRequestRefused budget t)
+IsRestEnd (finish.Full full) budget t old new = ⊥
+IsRestEnd finish.NoMemory budget t old new = t.refused ≡ None
 
 -- the connection stays open behind the answer to the request
 abbrev pub StaysOpen : AnsweredRequest → Type 0
@@ -293,39 +294,41 @@ IsClosedBy end turns = AllByRecursion StaysOpen turns
 
 -- a write failed at the answer to the last request: those before it were written, and left the connection open, and a
 -- prefix of it
-pub record BreaksAtAnswer (limit : ℕ) (turns : List AnsweredRequest) (wrote wrote' : List ℕ → Type 0) : Type 0 where
+pub record BreaksAtRequest (limit : ℕ) (turns : List AnsweredRequest) (wrote wrote' : List ℕ → Type 0) : Type 0 where
   pub answered : List AnsweredRequest
   pub last : AnsweredRequest
   pub split : turns ≡ answered ++ last ∷ []
   pub open_until : AllByRecursion StaysOpen answered
-  pub begun : HasBegun wrote wrote' (answers_to limit answered) (answer_text limit last)
+  pub begun : HasBegun wrote wrote' (request_answers limit answered) (answer_text limit last)
 
 -- the answer at which a write failed: that to the last request, or that to one that can't be read
-abbrev pub Breaks : ℕ → List AnsweredRequest → Option RefusedRequest → (List ℕ → Type 0) → (List ℕ → Type 0) → Type 0
-Breaks limit turns None wrote wrote' = BreaksAtAnswer limit turns wrote wrote'
-Breaks limit turns (Some r) wrote wrote' =
-    AllByRecursion StaysOpen turns × HasBegun wrote wrote' (answers_to limit turns) (refusal_text r)
+abbrev pub BreaksRest : ℕ → List AnsweredRequest → Option RefusedRequest → (List ℕ → Type 0) → (List ℕ → Type 0)
+    → Type 0
+BreaksRest limit turns None wrote wrote' = BreaksAtRequest limit turns wrote wrote'
+BreaksRest limit turns (Some r) wrote wrote' =
+    AllByRecursion StaysOpen turns × HasBegun wrote wrote' (request_answers limit turns) (refusal_text r)
 
 -- what was written: the answers, with that to a request that can't be read behind them, up to the write that failed
-abbrev pub HasWritten : ConnEnd → ℕ → Talk → (List ℕ → Type 0) → (List ℕ → Type 0) → Type 0
-HasWritten finish.WriteFault limit t wrote wrote' = Breaks limit t.turns t.refused wrote wrote'
-HasWritten end limit t wrote wrote' = HasText wrote wrote' (answers_to limit t.turns ++ refusal_behind t.refused)
+abbrev pub HasWrittenToRequests : ConnEnd → ℕ → RestTalk → (List ℕ → Type 0) → (List ℕ → Type 0) → Type 0
+HasWrittenToRequests finish.WriteFault limit t wrote wrote' = BreaksRest limit t.turns t.refused wrote wrote'
+HasWrittenToRequests end limit t wrote wrote' =
+    HasText wrote wrote' (request_answers limit t.turns ++ refusal_behind t.refused)
 
 -- the requests of a connection: what came of them in a history, what was taken off the link, what was written, and how
 -- they ended
-pub record ServesRequests (account : Account) (h : History) (budget : ℕ) (t : Talk) (wrote wrote' : List ℕ → Type 0)
+pub record ServesRequests (account : Account) (h : History) (budget : ℕ) (t : RestTalk) (wrote wrote' : List ℕ → Type 0)
     (old new : Sides)
     : Type 0 where
   pub requests : AllByRecursion (IsAnsweredRequest account h) t.turns
   pub bytes : TakesRequests budget t old new
-  pub answers : HasWritten t.end h.limit t wrote wrote'
-  pub end : IsEnd t.end budget t old new
+  pub answers : HasWrittenToRequests t.end h.limit t wrote wrote'
+  pub end : IsRestEnd t.end budget t old new
   pub closing : IsClosedBy t.end t.turns
   pub counts : KeepsCounts t.end old new
 
 -- a connection that is served: by which caller, for which account, with which budget of bytes; the history at its end,
 -- and how many entries of that had been seen as it began
-pub record Visit : Type 0 where
+pub record RestVisit : Type 0 where
   pub who : ℕ
   pub account : Account
   pub budget : ℕ
@@ -333,20 +336,20 @@ pub record Visit : Type 0 where
   pub from : ℕ
 
 -- a link's sides, a clock and a random source, before or after a call
-pub record LinkState (C R : Type 0) : Type 0 where
+pub record RestLinkState (C R : Type 0) : Type 0 where
   pub sides : Sides
   pub clock : C
   pub random : R
 
 -- what a connection does and reports: its requests and their calls in the history, the moments that the clock told, the
 -- random words that were drawn, and the report
-pub record Conversation {C R : Type 0} (ticks : C → ℕ → C → Type 0) (draws : R → ℕ → R → Type 0)
-    (wrote wrote' : List ℕ → Type 0) (v : Visit) (old new : LinkState C R) (report : ConnReport)
+pub record RestConversation {C R : Type 0} (ticks : C → ℕ → C → Type 0) (draws : R → ℕ → R → Type 0)
+    (wrote wrote' : List ℕ → Type 0) (v : RestVisit) (old new : RestLinkState C R) (report : ConnReport)
     : Type 0 where
-  pub talk : Talk
-  pub history : AreCallsIn v.history v.who v.from (calls_of v.who talk.turns)
+  pub talk : RestTalk
+  pub history : AreCallsIn v.history v.who v.from (calls_of_requests v.who talk.turns)
   pub moments : StepsThrough ticks old.clock (moments_in talk) new.clock
   pub words : StepsThrough draws old.random (words_of talk.turns) new.random
   pub served : ServesRequests v.account v.history v.budget talk wrote wrote' old.sides new.sides
   pub report_is : report
-      ≡ report_of talk.end talk.given v.budget (tally_after_all v.history.limit no_tally talk.turns)
+      ≡ report_of talk.end talk.given v.budget (tally_after_requests v.history.limit no_tally talk.turns)

@@ -4,7 +4,7 @@ ghost use Rattle.sx_base.specs.Clock.{greatest_moment};
 ghost use Rattle.sx_call.specs.Calls.{door_of};
 ghost use Rattle.sx_call.specs.declared.doors.Door.TheVariants.{Rest};
 ghost use Rattle.sx_book.specs.Passes.{KeepsSessions};
-ghost use Rattle.sx_rest_door.specs.Asking.{DrawsFresh, IsAnswered, IsOutcomeOf};
+ghost use Rattle.sx_rest_door.specs.Asking.{DrawsFresh, IsRequestAnswered, IsOutcomeOf};
 ghost use Rattle.sx_rest_door.specs.Asking.{said_uncalled, tally_uncalled};
 ghost use Rattle.sx_rest_door.specs.Conversation.{ComesTo};
 
@@ -47,7 +47,7 @@ fn answer_call<W: Wait, R: Random>(
     requires call { door_of call ≡ Rest }
     requires asked { tally.old.asked + 1 < 2 ^ 64 }
     ensures keeps { KeepsSessions pass.old pass.new }
-    ensures asked { IsAnswered R.draws now (IsOutcomeOf call)
+    ensures asked { IsRequestAnswered R.draws now (IsOutcomeOf call)
         (record { pass = pass.old; random = random.old; tally = tally.old })
         (record { pass = pass.new; random = random.new; tally = tally.new }) result }
 {
@@ -112,7 +112,7 @@ pub(crate) fn answer_request<W: Wait, R: Random>(
     requires clock { now ≤ greatest_moment }
     requires asked { tally.old.asked + 1 < 2 ^ 64 }
     ensures keeps { KeepsSessions pass.old pass.new }
-    ensures answered { IsAnswered R.draws now (ComesTo account.now request now)
+    ensures answered { IsRequestAnswered R.draws now (ComesTo account.now request now)
         (record { pass = pass.old; random = random.old; tally = tally.old })
         (record { pass = pass.new; random = random.new; tally = tally.new }) result }
 {

@@ -6,10 +6,10 @@ ghost use Rattle.sx_base.specs.Sink.{Prints};
 ghost use Rattle.sx_book.specs.OneHistory.{history_of};
 ghost use Rattle.sx_book.specs.Passes.{KeepsSessions};
 ghost use Rattle.sx_reply.specs.PrintedReply.{is_printed, printed};
-ghost use Rattle.sx_rest_door.specs.Asking.{IsServed, IsTurn, KeepsHistory, Replies, end_at, end_behind};
+ghost use Rattle.sx_rest_door.specs.Asking.{AreRequestsServed, IsTurn, KeepsHistory, Replies, end_at, end_behind};
 ghost use Rattle.sx_rest_door.specs.Asking.{own_places_behind};
 ghost use Rattle.sx_book.specs.Reports.{no_tally, taken_at};
-ghost use Rattle.sx_rest_door.specs.Conversation.{Conversation, ServesRequests, Talk, refusal_text};
+ghost use Rattle.sx_rest_door.specs.Conversation.{RestConversation, ServesRequests, RestTalk, refusal_text};
 
 use crate::answering::{answer_request, unplaced};
 use crate::closing::shape_of;
@@ -161,8 +161,8 @@ fn serve_requests<W: Wait, L: Link, C: Clock, R: Random>(
     requires own { pass.old.office ≡ office.now }
     requires reader { (reader.old.held ≡ []) × (reader.old.given ≡ 0) × (reader.old.ended ≡ false) }
     requires tally { tally.old ≡ no_tally }
-    ensures served { (talk : Talk) × (talk.end ≡ result)
-        × IsServed C.ticks R.draws talk clock.old clock.new
+    ensures served { (talk : RestTalk) × (talk.end ≡ result)
+        × AreRequestsServed C.ticks R.draws talk clock.old clock.new
         (record { pass = pass.old; random = random.old; tally = tally.old })
         (record { pass = pass.new; random = random.new; tally = tally.new })
         × ServesRequests account.now (history_of pass.new) reader.old.budget talk (L.wrote link.old) (L.wrote link.new)
@@ -203,7 +203,7 @@ pub fn serve_conn<W: Wait, L: Link, C: Clock, R: Random>(
     budget: u64,
 ) -> ConnReport
     requires own { pass.old.office ≡ office.now }
-    ensures conversation { Conversation C.ticks R.draws (L.wrote link.old) (L.wrote link.new)
+    ensures conversation { RestConversation C.ticks R.draws (L.wrote link.old) (L.wrote link.new)
         (record {
           who = pass.old.number;
           account = account.now;

@@ -21,7 +21,7 @@ use Rattle.sx_run.specs.declared.service.Unserved.TheVariants.{WriteFault, NoMem
 use Rattle.sx_run.specs.declared.words.ServeWords.{ServeWords}
 use Rattle.sx_book.specs.Reports.{HasText}
 use Rattle.sx_run.specs.Crews.{Told, AllTwo, AreAllDismissed, AreEngaged, Failed, HasRun, IsNewPass, RunsAt, TakenBack, crew_report, is_faulted, worker_pairs}
-use Rattle.sx_run.specs.Serving.{AllWorked, HasFailed, IsAllMet, IsUnreadyBy, IsUnservedBy, Outside, Serves, Shift, port_lines, reports_of, status_of, workers_of}
+use Rattle.sx_run.specs.Serving.{AllWorked, HasFailed, IsAllMet, IsUnreadyBy, IsUnservedBy, Ports, Serves, Shift, port_lines, reports_of, crews_status, workers_of}
 use Rattle.sx_run.specs.Visits.{HasNone, Post, Talks}
 use Rattle.sx_run.proofs.Visiting.{IsSoFar}
 use Rattle.sx_run.proofs.Serving.{crew_by, crew_faulted, failed_back, links_back, no_entry, shift_of, split_same}
@@ -230,20 +230,20 @@ module _ {L C W K S : Type 0} (tell : L → Told K) (wrote : S → List ℕ → 
   unserved_by ListenFault x = (failed_by x.1, nothing_written wrote out out' x.0)
 
 -- ---- the office was closed, or could not be
-module _ {K D E : Type 0} (rest_talks : Talks K D) (smb_talks : Talks K E) (serve : ServeWords) (wrote wrote' : List ℕ → Type 0) (old begun new : Outside K) (rest_port smb_port status : ℕ) (same : begun ≡ old) (lines : HasText wrote wrote' (port_lines rest_port smb_port)) (kept : new.writes ≡ begun.writes) where
+module _ {K D E : Type 0} (rest_talks : Talks K D) (smb_talks : Talks K E) (serve : ServeWords) (wrote wrote' : List ℕ → Type 0) (old begun new : Ports K) (rest_port smb_port status : ℕ) (same : begun ≡ old) (lines : HasText wrote wrote' (port_lines rest_port smb_port)) (kept : new.writes ≡ begun.writes) where
   pub served_by : (p : PassView) (book : History) (rest_report smb_report : CrewReport) → book ≡ record { entries = p.seen; limit = p.limit } → p.limit ≡ serve.limit → IsHistory book.limit book.entries
-      → (IsAllMet p → AllWorked rest_talks smb_talks serve p.seen begun new rest_report smb_report) → IsAllMet p → status ≡ status_of rest_report smb_report
+      → (IsAllMet p → AllWorked rest_talks smb_talks serve p.seen begun new rest_report smb_report) → IsAllMet p → status ≡ crews_status rest_report smb_report
       → Serves rest_talks smb_talks serve wrote wrote' old new status
   served_by p book rest_report smb_report is limit legal worked met told = inl (record {
     rest_port = rest_port;
     smb_port = smb_port;
     lines = lines;
-    kept = kept ∙ ap (λ (o : Outside K). o.writes) same;
+    kept = kept ∙ ap (λ (o : Ports K). o.writes) same;
     entries = p.seen;
     legal = subst (λ (x : ℕ × List Noted). IsHistory x.0 x.1) (λ j. ((ap (λ (h : History). h.limit) is ∙ limit) j, ap (λ (h : History). h.entries) is j)) legal;
     rest_report = rest_report;
     smb_report = smb_report;
-    worked = subst (λ (o : Outside K). AllWorked rest_talks smb_talks serve p.seen o new rest_report smb_report) same (worked met);
+    worked = subst (λ (o : Ports K). AllWorked rest_talks smb_talks serve p.seen o new rest_report smb_report) same (worked met);
     status_is = told;
   })
 
@@ -252,11 +252,11 @@ module _ {K D E : Type 0} (rest_talks : Talks K D) (smb_talks : Talks K E) (serv
     rest_port = rest_port;
     smb_port = smb_port;
     lines = lines;
-    kept = kept ∙ ap (λ (o : Outside K). o.writes) same;
+    kept = kept ∙ ap (λ (o : Ports K). o.writes) same;
     status_is = told;
   }))
 
 -- what was begun is as it was before both listeners listened
 pub begun_same : {K : Type 0} (rest rest' smb smb' : Told K) (writes : ℕ) → rest'.links ≡ rest.links → rest'.faults ≡ rest.faults → smb'.links ≡ smb.links → smb'.faults ≡ smb.faults
-    → record { rest = rest'; smb = smb'; writes = writes } ≡ (let o : Outside K = record { rest = rest; smb = smb; writes = writes } in o)
+    → record { rest = rest'; smb = smb'; writes = writes } ≡ (let o : Ports K = record { rest = rest; smb = smb; writes = writes } in o)
 begun_same {K} rest rest' smb smb' writes a b c d = λ j. record { rest = record { links = a j; faults = b j }; smb = record { links = c j; faults = d j }; writes = writes }

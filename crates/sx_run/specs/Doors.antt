@@ -28,7 +28,7 @@ sides_of tells link = record { left = tells.left link; reads = tells.reads link;
 -- the session door: the conversation of its peer's session, at moments of its clock
 abbrev pub smb_talks : {K C : Type 0} → (C → ℕ → C → Type 0) → Telling K → Talks K C
 smb_talks ticks tells s old new report =
-    smb.Conversation ticks (tells.wrote old.link) (tells.wrote new.link)
+    smb.SessionConversation ticks (tells.wrote old.link) (tells.wrote new.link)
     (record { who = s.who; peer = tells.peer old.link; budget = link_budget; history = s.history; from = s.from })
     (record { sides = sides_of tells old.link; clock = old.door })
     (record { sides = sides_of tells new.link; clock = new.door }) report × tells.calls old.link new.link
@@ -42,7 +42,7 @@ pub record Tools (C W : Type 0) : Type 0 where
 abbrev pub rest_talks : {K C W : Type 0} → (C → ℕ → C → Type 0) → (W → ℕ → W → Type 0) → Telling K → Account
     → Talks K (Tools C W)
 rest_talks ticks draws tells account s old new report =
-    rest.Conversation ticks draws (tells.wrote old.link) (tells.wrote new.link)
+    rest.RestConversation ticks draws (tells.wrote old.link) (tells.wrote new.link)
     (record { who = s.who; account = account; budget = link_budget; history = s.history; from = s.from })
     (record { sides = sides_of tells old.link; clock = old.door.clock; random = old.door.random })
     (record { sides = sides_of tells new.link; clock = new.door.clock; random = new.door.random }) report

@@ -58,8 +58,8 @@ HasFaults old new ss = (crew_report (reports_of ss)).faulted ≡ true → Rose o
 
 -- the status by the reports of both doors' workers: out of memory comes first, then a listener's fault, then a full
 -- history
-abbrev pub status_of : CrewReport → CrewReport → ℕ
-status_of rest smb =
+abbrev pub crews_status : CrewReport → CrewReport → ℕ
+crews_status rest smb =
     if rest.starved || smb.starved then 5
     else if rest.faulted || smb.faulted then 6
     else if rest.full || smb.full then 7
@@ -70,14 +70,14 @@ abbrev pub port_lines : ℕ → ℕ → List ℕ
 port_lines rest smb = codes "rest " ++ decimal rest ++ codes "\nsmb " ++ decimal smb ++ codes "\n"
 
 -- both listeners, and the count of failed writes of the output, before or after
-pub record Outside (K : Type 0) : Type 0 where
+pub record Ports (K : Type 0) : Type 0 where
   pub rest : Told K
   pub smb : Told K
   pub writes : ℕ
 
 -- both doors had their workers, and each entry of the history is of exactly one of them
 pub record AllWorked {K D E : Type 0} (rest_talks : Talks K D) (smb_talks : Talks K E) (serve : ServeWords)
-    (entries : List Noted) (old new : Outside K) (rest_report smb_report : CrewReport)
+    (entries : List Noted) (old new : Ports K) (rest_report smb_report : CrewReport)
     : Type 0 where
   pub rest : List Shift
   pub smb : List Shift
@@ -96,7 +96,7 @@ pub record AllWorked {K D E : Type 0} (rest_talks : Talks K D) (smb_talks : Talk
 -- the links were served: the ports were told, both doors had their workers, and the office was closed with a legal
 -- history
 pub record HasServed {K D E : Type 0} (rest_talks : Talks K D) (smb_talks : Talks K E) (serve : ServeWords)
-    (wrote wrote' : List ℕ → Type 0) (old new : Outside K) (status : ℕ)
+    (wrote wrote' : List ℕ → Type 0) (old new : Ports K) (status : ℕ)
     : Type 0 where
   pub rest_port : ℕ
   pub smb_port : ℕ
@@ -107,10 +107,10 @@ pub record HasServed {K D E : Type 0} (rest_talks : Talks K D) (smb_talks : Talk
   pub rest_report : CrewReport
   pub smb_report : CrewReport
   pub worked : AllWorked rest_talks smb_talks serve entries old new rest_report smb_report
-  pub status_is : status ≡ status_of rest_report smb_report
+  pub status_is : status ≡ crews_status rest_report smb_report
 
 -- the links were served, but the office could not be closed: the ports were told
-pub record IsUnclosed {K : Type 0} (wrote wrote' : List ℕ → Type 0) (old new : Outside K) (status : ℕ) : Type 0 where
+pub record IsUnclosed {K : Type 0} (wrote wrote' : List ℕ → Type 0) (old new : Ports K) (status : ℕ) : Type 0 where
   pub rest_port : ℕ
   pub smb_port : ℕ
   pub lines : HasText wrote wrote' (port_lines rest_port smb_port)
@@ -125,7 +125,7 @@ status_unserved ListenFault = 6
 
 -- why no link was served: the ports could not be told; no memory was left, or the office gave no pass; or a call of a
 -- listener failed
-abbrev pub IsUnservedBy : {K : Type 0} → Unserved → (List ℕ → Type 0) → (List ℕ → Type 0) → Outside K → Outside K
+abbrev pub IsUnservedBy : {K : Type 0} → Unserved → (List ℕ → Type 0) → (List ℕ → Type 0) → Ports K → Ports K
     → Type 0
 IsUnservedBy WriteFault wrote wrote' old new =
     Rose old.writes new.writes
@@ -135,7 +135,7 @@ IsUnservedBy ListenFault wrote wrote' old new =
     (Rose old.rest.faults new.rest.faults ⊎ Rose old.smb.faults new.smb.faults) × HasText wrote wrote' []
 
 -- no link was given by a listener, and the history has no entry
-pub record IsUnserved {K : Type 0} (wrote wrote' : List ℕ → Type 0) (old new : Outside K) (status : ℕ) : Type 0 where
+pub record IsUnserved {K : Type 0} (wrote wrote' : List ℕ → Type 0) (old new : Ports K) (status : ℕ) : Type 0 where
   pub rest_same : new.rest.links ≡ old.rest.links
   pub smb_same : new.smb.links ≡ old.smb.links
   pub unserved : Unserved
@@ -144,7 +144,7 @@ pub record IsUnserved {K : Type 0} (wrote wrote' : List ℕ → Type 0) (old new
 
 -- what the service does
 abbrev pub Serves : {K D E : Type 0} → Talks K D → Talks K E → ServeWords → (List ℕ → Type 0) → (List ℕ → Type 0)
-    → Outside K → Outside K → ℕ → Type 0
+    → Ports K → Ports K → ℕ → Type 0
 Serves rest_talks smb_talks serve wrote wrote' old new status =
     HasServed rest_talks smb_talks serve wrote wrote' old new status ⊎ IsUnclosed wrote wrote' old new status
     ⊎ IsUnserved wrote wrote' old new status

@@ -8,7 +8,7 @@ ghost use Rattle.sx_book.specs.Reports.{HasText};
 ghost use Rattle.sx_run.specs.Crews.{AreAllDismissed, AreEngaged};
 ghost use Rattle.sx_run.specs.Doors.{rest_talks, smb_talks};
 ghost use Rattle.sx_run.specs.Serving.{AllWorked, HasFailed, IsAllMet, IsUnreadyBy, IsUnservedBy, Serves};
-ghost use Rattle.sx_run.specs.Serving.{port_lines, status_of, status_unserved};
+ghost use Rattle.sx_run.specs.Serving.{port_lines, crews_status, status_unserved};
 ghost use Rattle.sx_run.specs.Words.{IsCrewSize};
 ghost use Rattle.sx_run.specs.declared.crew.Unhired.TheVariants as Unhired;
 
@@ -135,8 +135,8 @@ fn dismiss_all<L: Listener, C: Clock, W: Random>(
 }
 
 /// The status by what became of the workers of both doors.
-fn status_of(rest: CrewReport, smb: CrewReport) -> u8
-    ensures { result ≡ status_of rest smb }
+fn crews_status(rest: CrewReport, smb: CrewReport) -> u8
+    ensures { result ≡ crews_status rest smb }
 {
     if rest.starved || smb.starved {
         return NO_MEMORY;
@@ -311,11 +311,11 @@ where
 
 /// The status of a closed office: its book's history is legal.
 fn status_of_book(book: Book, rest: CrewReport, smb: CrewReport) -> u8
-    ensures status { result ≡ status_of rest smb }
+    ensures status { result ≡ crews_status rest smb }
     ensures legal { IsHistory book.limit book.entries }
 {
     book.keeps();
-    status_of(rest, smb)
+    crews_status(rest, smb)
 }
 
 /// Lets go of what an office's close gave: its book, or the office that could not be closed.

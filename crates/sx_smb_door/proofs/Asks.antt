@@ -18,8 +18,8 @@ use Rattle.sx_lines.specs.Answers.{has_line}
 use Rattle.sx_lines.specs.declared.answer.LineAnswer.{LineAnswer}
 use Rattle.sx_lines.specs.declared.answer.LineAnswer.TheVariants.{Core, Stop as Stopped}
 use Rattle.sx_book.specs.Reports.{tally_with_stop}
-use Rattle.sx_smb_door.specs.Asking.{DoorState, IsAsked}
-use Rattle.sx_smb_door.specs.Conversation.{is_lock}
+use Rattle.sx_smb_door.specs.Asking.{SessionDoorState, IsAsked}
+use Rattle.sx_smb_door.specs.Conversation.{locks_bytes}
 
 -- ---- its reply has a line
 false_true : false ≡ true → ⊥
@@ -54,9 +54,9 @@ receipt_line law p q session moment fresh call r door took =
 
 -- ---- what an office answers
 -- a call that took a place
-pub appended_call : {C : Type 0} (ticks : C → ℕ → C → Type 0) (session : ℕ) (call : Call) (old new : DoorState C) (moment : ℕ) (r : Receipt)
+pub appended_call : {C : Type 0} (ticks : C → ℕ → C → Type 0) (session : ℕ) (call : Call) (old new : SessionDoorState C) (moment : ℕ) (r : Receipt)
     → has_line r.reply ≡ true → HoldsSession new.pass session → ticks old.clock moment new.clock → Appends old.pass session moment 0 call r new.pass → new.tally ≡ record old.tally { asked = old.tally.asked + 1 }
-    → IsAsked ticks session call old new (Core r.place r.reply (is_lock call))
+    → IsAsked ticks session call old new (Core r.place r.reply (locks_bytes call))
 appended_call {C} ticks session call old new moment r line held told took counted = record {
   moment = moment;
   came = appended r.place r.reply;
@@ -69,7 +69,7 @@ appended_call {C} ticks session call old new moment r line held told took counte
 }
 
 -- a call that took none
-pub stopped_call : {C : Type 0} (ticks : C → ℕ → C → Type 0) (session : ℕ) (call : Call) (old new : DoorState C) (moment : ℕ) (s : Stop)
+pub stopped_call : {C : Type 0} (ticks : C → ℕ → C → Type 0) (session : ℕ) (call : Call) (old new : SessionDoorState C) (moment : ℕ) (s : Stop)
     → HoldsSession new.pass session → ticks old.clock moment new.clock → AppendsNone old.pass call s new.pass → new.tally ≡ tally_with_stop (record old.tally { asked = old.tally.asked + 1 }) s
     → IsAsked ticks session call old new (Stopped s)
 stopped_call {C} ticks session call old new moment NoMemory held told took counted = record {

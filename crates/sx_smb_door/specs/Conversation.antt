@@ -50,16 +50,16 @@ pub record Caller : Type 0 where
   pub limit : ℕ
 
 -- the line spells the call that was asked, or its first wrong word stands at this place
-abbrev pub Spells : List ℕ → LineOutcome → Type 0
-Spells line (wrong_word at) = line_of line ≡ Err at
-Spells line not_parsed = Unit {0}
-Spells line (called call moment came) = line_of line ≡ Ok (Ask call)
+abbrev pub SpellsOutcome : List ℕ → LineOutcome → Type 0
+SpellsOutcome line (wrong_word at) = line_of line ≡ Err at
+SpellsOutcome line not_parsed = Unit {0}
+SpellsOutcome line (called call moment came) = line_of line ≡ Ok (Ask call)
 
 -- a line within its limit, and what it spells
 pub record IsAnsweredLine (t : AnsweredLine) : Type 0 where
   pub one : IsOneLine t.line
   pub short : length t.line ≤ LINE_LIMIT
-  pub spells : Spells t.line t.outcome
+  pub spells : SpellsOutcome t.line t.outcome
 
 -- a line within its limit that ends the session
 pub record IsQuit (line : List ℕ) : Type 0 where
@@ -68,51 +68,51 @@ pub record IsQuit (line : List ℕ) : Type 0 where
   pub quits : line_of line ≡ Ok Quit
 
 -- a call in a session, and what it came to; it draws no random number
-abbrev pub call_with : ℕ → ℕ → Call → ℕ → Came → Outcome
-call_with who session call moment came =
+abbrev pub session_call : ℕ → ℕ → Call → ℕ → Came → Outcome
+session_call who session call moment came =
     record { asked = record { who = who; session = session; call = call; now = moment; fresh = 0 }; came = came }
 
 -- the call of a line, if it was asked
-abbrev pub calls_in : Caller → LineOutcome → List Outcome
-calls_in w (wrong_word at) = []
-calls_in w not_parsed = []
-calls_in w (called call moment came) = call_with w.who w.session call moment came ∷ []
+abbrev pub calls_in_line : Caller → LineOutcome → List Outcome
+calls_in_line w (wrong_word at) = []
+calls_in_line w not_parsed = []
+calls_in_line w (called call moment came) = session_call w.who w.session call moment came ∷ []
 
 -- the calls of lines
-abbrev pub calls_of : Caller → List AnsweredLine → List Outcome
-calls_of w ts = flat_map (λ t. calls_in w t.outcome) ts
+abbrev pub calls_of_lines : Caller → List AnsweredLine → List Outcome
+calls_of_lines w ts = flat_map (λ t. calls_in_line w t.outcome) ts
 
 -- whether a call locks bytes
-abbrev pub is_lock : Call → Bool
-is_lock (SmbLock c) = true
-is_lock other = false
+abbrev pub locks_bytes : Call → Bool
+locks_bytes (SmbLock c) = true
+locks_bytes other = false
 
 -- the answer to a call
 abbrev pub answer_to : ℕ → Call → Came → LineAnswer
-answer_to limit call (appended place reply) = Core place reply (is_lock call)
+answer_to limit call (appended place reply) = Core place reply (locks_bytes call)
 answer_to limit call (history_full entries sessions) = Stop (stop.HistoryFull entries sessions limit)
 answer_to limit call no_memory = Stop stop.NoMemory
 
 -- the answer to a line of this outcome
-abbrev pub answer_of : Caller → LineOutcome → LineAnswer
-answer_of w (wrong_word at) = Syntax at
-answer_of w not_parsed = Stop stop.NoMemory
-answer_of w (called call moment came) = answer_to w.limit call came
+abbrev pub line_answer : Caller → LineOutcome → LineAnswer
+line_answer w (wrong_word at) = Syntax at
+line_answer w not_parsed = Stop stop.NoMemory
+line_answer w (called call moment came) = answer_to w.limit call came
 
 -- what a report counts, after a line
-abbrev pub tally_after : Caller → Tally → LineOutcome → Tally
-tally_after w t (wrong_word at) = t
-tally_after w t not_parsed = record t { no_memory = true }
-tally_after w t (called call moment came) = tally_with w.limit (record t { asked = t.asked + 1 }) came
+abbrev pub tally_after_line : Caller → Tally → LineOutcome → Tally
+tally_after_line w t (wrong_word at) = t
+tally_after_line w t not_parsed = record t { no_memory = true }
+tally_after_line w t (called call moment came) = tally_with w.limit (record t { asked = t.asked + 1 }) came
 
 -- what a report counts, after lines
-abbrev pub tally_after_all : Caller → Tally → List AnsweredLine → Tally
-tally_after_all w tally [] = tally
-tally_after_all w tally (t ∷ ts) = tally_after_all w (tally_after w tally t.outcome) ts
+abbrev pub tally_after_lines : Caller → Tally → List AnsweredLine → Tally
+tally_after_lines w tally [] = tally
+tally_after_lines w tally (t ∷ ts) = tally_after_lines w (tally_after_line w tally t.outcome) ts
 
 -- the printed answers to lines
-abbrev pub answers_to : Caller → List AnsweredLine → List ℕ
-answers_to w ts = flat_map (λ t. answer_line (answer_of w t.outcome)) ts
+abbrev pub line_answers : Caller → List AnsweredLine → List ℕ
+line_answers w ts = flat_map (λ t. answer_line (line_answer w t.outcome)) ts
 
 -- the bytes of the lines, with their line feeds
 abbrev pub line_bytes : List AnsweredLine → List ℕ
@@ -125,7 +125,7 @@ quit_bytes (Some line) = with_line_feed line
 
 -- what was said in a session: the lines that were answered, the line `quit`, if that ended it, how many bytes they
 -- have, how they ended, what the link had left behind them, and which bytes of that were taken and not given
-pub record Talk : Type 0 where
+pub record SessionTalk : Type 0 where
   pub turns : List AnsweredLine
   pub quit : Option (List ℕ)
   pub given : ℕ
@@ -134,12 +134,12 @@ pub record Talk : Type 0 where
   pub held : List ℕ
 
 -- the bytes of all lines that were given
-abbrev pub given_bytes : Talk → List ℕ
+abbrev pub given_bytes : SessionTalk → List ℕ
 given_bytes t = line_bytes t.turns ++ quit_bytes t.quit
 
 -- the lines were taken off the link, and what was taken in all is within the budget: what the link had left behind
 -- the lines is what was taken of it and not given, and what it has left
-pub record TakesLines (budget : ℕ) (t : Talk) (old new : Sides) : Type 0 where
+pub record TakesLines (budget : ℕ) (t : SessionTalk) (old new : Sides) : Type 0 where
   pub lines : Consumes old.left t.rest (given_bytes t)
   pub given_is : t.given ≡ length (given_bytes t)
   pub unread : Keeps t.rest (prepend_known t.held new.left)
@@ -147,23 +147,23 @@ pub record TakesLines (budget : ℕ) (t : Talk) (old new : Sides) : Type 0 where
 
 -- why no further line was answered, by what was left behind the lines and held of it, the budget, and the link's counts
 -- of failed reads and puts
-abbrev pub IsEnd : ConnEnd → ℕ → Talk → Sides → Sides → Type 0
-IsEnd finish.Ended budget t old new = IsAtEnd t.rest × (t.held ≡ []) × (t.given < budget)
-IsEnd (finish.Closed None) budget t old new = Unit {0}
-IsEnd (finish.Closed (Some at)) budget t old new =
+abbrev pub IsSessionEnd : ConnEnd → ℕ → SessionTalk → Sides → Sides → Type 0
+IsSessionEnd finish.Ended budget t old new = IsAtEnd t.rest × (t.held ≡ []) × (t.given < budget)
+IsSessionEnd (finish.Closed None) budget t old new = Unit {0}
+IsSessionEnd (finish.Closed (Some at)) budget t old new =
     IfSome t.rest (BeginsUnended (LINE_LIMIT + 1)) × BeginsUnended (LINE_LIMIT + 1) t.held × (at ≡ t.given)
-IsEnd (finish.Cut left) budget t old new =
+IsSessionEnd (finish.Cut left) budget t old new =
     IfSome t.rest (IsCutLine left) × IsCutLine left t.held × (1 ≤ left) × (left ≤ LINE_LIMIT)
     × (t.given + left < budget)
-IsEnd finish.Spent budget t old new =
+IsSessionEnd finish.Spent budget t old new =
     IfSome t.rest (BeginsUnended (budget - t.given)) × IsCutLine (budget - t.given) t.held
     × (t.given ≤ budget) × (budget ≤ t.given + LINE_LIMIT)
-IsEnd finish.ReadFault budget t old new =
+IsSessionEnd finish.ReadFault budget t old new =
     Rose old.reads new.reads × IsOneLine t.held × (length t.held ≤ LINE_LIMIT)
     × (t.given + length t.held < budget)
-IsEnd finish.WriteFault budget t old new = Rose old.writes new.writes
-IsEnd (finish.Full full) budget t old new = ⊥
-IsEnd finish.NoMemory budget t old new = Unit {0}
+IsSessionEnd finish.WriteFault budget t old new = Rose old.writes new.writes
+IsSessionEnd (finish.Full full) budget t old new = ⊥
+IsSessionEnd finish.NoMemory budget t old new = Unit {0}
 
 -- `quit` ended the session: it closed without a fault of its lines, or the write of the last answer failed
 abbrev pub EndsByQuit : ConnEnd → Option (List ℕ) → Type 0
@@ -174,41 +174,42 @@ EndsByQuit end None = Unit {0}
 EndsByQuit end (Some line) = ⊥
 
 -- a write failed at the answer to the last line: those before it were written, and a prefix of it
-pub record BreaksAtAnswer (w : Caller) (turns : List AnsweredLine) (wrote wrote' : List ℕ → Type 0) : Type 0 where
+pub record BreaksAtLine (w : Caller) (turns : List AnsweredLine) (wrote wrote' : List ℕ → Type 0) : Type 0 where
   pub answered : List AnsweredLine
   pub last : AnsweredLine
   pub split : turns ≡ answered ++ last ∷ []
-  pub begun : HasBegun wrote wrote' (answers_to w answered) (answer_line (answer_of w last.outcome))
+  pub begun : HasBegun wrote wrote' (line_answers w answered) (answer_line (line_answer w last.outcome))
 
 -- a write failed at the refusal of a line over its limit: all answers were written, and a prefix of that
-abbrev pub BreaksAtRefusal : Caller → Talk → (List ℕ → Type 0) → (List ℕ → Type 0) → Type 0
+abbrev pub BreaksAtRefusal : Caller → SessionTalk → (List ℕ → Type 0) → (List ℕ → Type 0) → Type 0
 BreaksAtRefusal w t wrote wrote' =
     IfSome t.rest (BeginsUnended (LINE_LIMIT + 1)) × BeginsUnended (LINE_LIMIT + 1) t.held
-    × HasBegun wrote wrote' (answers_to w t.turns) (answer_line Long)
+    × HasBegun wrote wrote' (line_answers w t.turns) (answer_line Long)
 
 -- the answer at which a write failed: that to a line, or to a line over its limit; or that to `quit`, which is `last`
-abbrev pub Breaks : Option (List ℕ) → Caller → List ℕ → Talk → (List ℕ → Type 0) → (List ℕ → Type 0) → Type 0
-Breaks None w last t wrote wrote' = BreaksAtAnswer w t.turns wrote wrote' ⊎ BreaksAtRefusal w t wrote wrote'
-Breaks (Some line) w last t wrote wrote' = HasBegun wrote wrote' (answers_to w t.turns) last
+abbrev pub BreaksSession : Option (List ℕ) → Caller → List ℕ → SessionTalk → (List ℕ → Type 0) → (List ℕ → Type 0)
+    → Type 0
+BreaksSession None w last t wrote wrote' = BreaksAtLine w t.turns wrote wrote' ⊎ BreaksAtRefusal w t wrote wrote'
+BreaksSession (Some line) w last t wrote wrote' = HasBegun wrote wrote' (line_answers w t.turns) last
 
 -- what was written: the answers, with the refusal of a line over its limit or the answer to `quit` behind them, up to
 -- the write that failed
-abbrev pub HasWritten : ConnEnd → Caller → List ℕ → Talk → (List ℕ → Type 0) → (List ℕ → Type 0) → Type 0
-HasWritten finish.WriteFault w last t wrote wrote' = Breaks t.quit w last t wrote wrote'
-HasWritten (finish.Closed (Some at)) w last t wrote wrote' =
-    HasText wrote wrote' (answers_to w t.turns ++ answer_line Long)
-HasWritten (finish.Closed None) w last t wrote wrote' = HasText wrote wrote' (answers_to w t.turns ++ last)
-HasWritten end w last t wrote wrote' = HasText wrote wrote' (answers_to w t.turns)
+abbrev pub HasWrittenToLines : ConnEnd → Caller → List ℕ → SessionTalk → (List ℕ → Type 0) → (List ℕ → Type 0) → Type 0
+HasWrittenToLines finish.WriteFault w last t wrote wrote' = BreaksSession t.quit w last t wrote wrote'
+HasWrittenToLines (finish.Closed (Some at)) w last t wrote wrote' =
+    HasText wrote wrote' (line_answers w t.turns ++ answer_line Long)
+HasWrittenToLines (finish.Closed None) w last t wrote wrote' = HasText wrote wrote' (line_answers w t.turns ++ last)
+HasWrittenToLines end w last t wrote wrote' = HasText wrote wrote' (line_answers w t.turns)
 
 -- the lines of a session of this caller: what they spell, what was taken off the link, what was written, with the
 -- answer to `quit`, and how they ended
-pub record ServesLines (w : Caller) (budget : ℕ) (last : List ℕ) (t : Talk) (wrote wrote' : List ℕ → Type 0)
+pub record ServesLines (w : Caller) (budget : ℕ) (last : List ℕ) (t : SessionTalk) (wrote wrote' : List ℕ → Type 0)
     (old new : Sides)
     : Type 0 where
   pub lines : AllByRecursion IsAnsweredLine t.turns
   pub bytes : TakesLines budget t old new
-  pub answers : HasWritten t.end w last t wrote wrote'
-  pub end : IsEnd t.end budget t old new
+  pub answers : HasWrittenToLines t.end w last t wrote wrote'
+  pub end : IsSessionEnd t.end budget t old new
   pub quits : EndsByQuit t.end t.quit
   pub counts : KeepsCounts t.end old new
 
@@ -224,7 +225,7 @@ end_of (stop.HistoryFull entries sessions limit) =
 
 -- a session that is served: by which caller, for which peer, with which budget of bytes; the history at its end, and
 -- how many entries of that had been seen as it began
-pub record Visit : Type 0 where
+pub record SessionVisit : Type 0 where
   pub who : ℕ
   pub peer : ℕ
   pub budget : ℕ
@@ -232,17 +233,17 @@ pub record Visit : Type 0 where
   pub from : ℕ
 
 -- a link's sides, and a clock, before or after a call
-pub record LinkState (C : Type 0) : Type 0 where
+pub record SessionLinkState (C : Type 0) : Type 0 where
   pub sides : Sides
   pub clock : C
 
 -- the caller of the visit's session of a number
-abbrev pub caller_of_visit : Visit → ℕ → Caller
+abbrev pub caller_of_visit : SessionVisit → ℕ → Caller
 caller_of_visit v session = record { who = v.who; session = session; limit = v.history.limit }
 
 -- the call that starts a session
-abbrev pub start_call : Visit → ℕ → Came → Outcome
-start_call v moment came = call_with v.who 0 (start_of v.peer) moment came
+abbrev pub start_call : SessionVisit → ℕ → Came → Outcome
+start_call v moment came = session_call v.who 0 (start_of v.peer) moment came
 
 -- the Start of a session and its End: the moment, the place, and the reply, which for the Start is the session's number
 pub record Bounds : Type 0 where
@@ -254,11 +255,11 @@ pub record Bounds : Type 0 where
   pub reply : Reply
 
 -- the calls of a whole session: its Start, those of its lines, and its End
-abbrev pub session_calls : Visit → Bounds → List AnsweredLine → List Outcome
+abbrev pub session_calls : SessionVisit → Bounds → List AnsweredLine → List Outcome
 session_calls v b turns =
     start_call v b.started (appended b.first (Smb (Started b.session)))
-    ∷ (calls_of (caller_of_visit v b.session) turns
-    ++ call_with v.who b.session End b.finished (appended b.last b.reply) ∷ [])
+    ∷ (calls_of_lines (caller_of_visit v b.session) turns
+    ++ session_call v.who b.session End b.finished (appended b.last b.reply) ∷ [])
 
 -- the answer to `quit`: that of the session's End
 abbrev pub farewell : Bounds → List ℕ
@@ -266,38 +267,38 @@ farewell b = answer_line (Core b.last b.reply false)
 
 -- a session that was started, answered its lines, and was ended: its calls in the history, the moments that the clock
 -- told for them, its lines, and its report
-pub record Session {C : Type 0} (ticks : C → ℕ → C → Type 0) (wrote wrote' : List ℕ → Type 0) (v : Visit)
-    (old new : LinkState C) (report : ConnReport) : Type 0 where
+pub record Session {C : Type 0} (ticks : C → ℕ → C → Type 0) (wrote wrote' : List ℕ → Type 0) (v : SessionVisit)
+    (old new : SessionLinkState C) (report : ConnReport) : Type 0 where
   pub bounds : Bounds
-  pub talk : Talk
+  pub talk : SessionTalk
   pub history : AreCallsIn v.history v.who v.from (session_calls v bounds talk.turns)
   pub moments : StepsThrough ticks old.clock (moments_of (session_calls v bounds talk.turns)) new.clock
   pub served : ServesLines (caller_of_visit v bounds.session) v.budget (farewell bounds) talk wrote wrote' old.sides
       new.sides
   pub report_is : report
       ≡ report_of talk.end talk.given v.budget
-      (tally_after_all (caller_of_visit v bounds.session) no_tally talk.turns)
+      (tally_after_lines (caller_of_visit v bounds.session) no_tally talk.turns)
 
 -- the report of a session whose start was not appended
-abbrev pub IsRefused : ℕ → Came → ConnReport → Type 0
-IsRefused limit (appended place reply) report = ⊥
-IsRefused limit (history_full entries sessions) report =
+abbrev pub IsSessionRefused : ℕ → Came → ConnReport → Type 0
+IsSessionRefused limit (appended place reply) report = ⊥
+IsSessionRefused limit (history_full entries sessions) report =
     report ≡ unstarted_report (finish.Full (record { entries = entries; sessions = sessions; limit = limit }))
-IsRefused limit no_memory report = report ≡ unstarted_report finish.NoMemory
+IsSessionRefused limit no_memory report = report ≡ unstarted_report finish.NoMemory
 
 -- a session whose start was refused: it read and wrote nothing, and has no entry
-pub record IsUnstarted {C : Type 0} (ticks : C → ℕ → C → Type 0) (wrote wrote' : List ℕ → Type 0) (v : Visit)
-    (old new : LinkState C) (report : ConnReport) : Type 0 where
+pub record IsUnstarted {C : Type 0} (ticks : C → ℕ → C → Type 0) (wrote wrote' : List ℕ → Type 0) (v : SessionVisit)
+    (old new : SessionLinkState C) (report : ConnReport) : Type 0 where
   pub moment : ℕ
   pub came : Came
   pub history : AreCallsIn v.history v.who v.from (start_call v moment came ∷ [])
   pub moments : ticks old.clock moment new.clock
   pub unread : new.sides ≡ old.sides
   pub answers : HasText wrote wrote' []
-  pub report_is : IsRefused v.history.limit came report
+  pub report_is : IsSessionRefused v.history.limit came report
 
 -- what a session does and reports
-abbrev pub Conversation : {C : Type 0} → (C → ℕ → C → Type 0) → (List ℕ → Type 0) → (List ℕ → Type 0) → Visit
-    → LinkState C → LinkState C → ConnReport → Type 0
-Conversation ticks wrote wrote' v old new report =
+abbrev pub SessionConversation : {C : Type 0} → (C → ℕ → C → Type 0) → (List ℕ → Type 0) → (List ℕ → Type 0)
+    → SessionVisit → SessionLinkState C → SessionLinkState C → ConnReport → Type 0
+SessionConversation ticks wrote wrote' v old new report =
     IsUnstarted ticks wrote wrote' v old new report ⊎ Session ticks wrote wrote' v old new report

@@ -90,11 +90,11 @@ IsReasonAtEnd next reader =
     → IsReason next reader bytes before now
 
 -- what one read behind the bytes that are held did
-abbrev pub Fills : Refill → LineReaderView → LineReaderView → Option (List ℕ) → Option (List ℕ) → ℕ → ℕ → Type 0
-Fills More old new left left' before now =
+abbrev pub FillsLine : Refill → LineReaderView → LineReaderView → Option (List ℕ) → Option (List ℕ) → ℕ → ℕ → Type 0
+FillsLine More old new left left' before now =
     KeepsStream old new left left' × (take (length old.held) new.held ≡ old.held) × (length old.held < length new.held)
     × (now ≡ before)
-Fills Ended old new left left' before now =
+FillsLine Ended old new left left' before now =
     KeepsStream old new left left' × IsAtEnd left' × (new ≡ old) × (now ≡ before)
-Fills Failed old new left left' before now = KeepsStream old new left left' × Rose before now × (new ≡ old)
-Fills OutOfMemory old new left left' before now = KeepsStream old new left left' × (now ≡ before)
+FillsLine Failed old new left left' before now = KeepsStream old new left left' × Rose before now × (new ≡ old)
+FillsLine OutOfMemory old new left left' before now = KeepsStream old new left left' × (now ≡ before)

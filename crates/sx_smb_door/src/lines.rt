@@ -3,7 +3,7 @@ ghost use Rattle.std.specs.Prelude.{◌≡◌, ◌≤◌, ◌<◌, ◌+◌, ◌�
 ghost use Rattle.std.specs.Prelude.{position, take, drop, []};
 ghost use Rattle.std.specs.declared.option.Option.{Option};
 ghost use Rattle.sx_smb_door.specs.Lines.{is_line_end, IsOneLine, BeginsUnended, WantsMore, IsNextLine};
-ghost use Rattle.sx_smb_door.specs.Lines.{IsReasonAtEnd, HasReadCause, Fills};
+ghost use Rattle.sx_smb_door.specs.Lines.{IsReasonAtEnd, HasReadCause, FillsLine};
 
 use std::alloc::Global;
 use std::marker::Model;
@@ -189,7 +189,7 @@ impl LineReader {
     fn fill<S: Source>(&mut self, source: &mut S) -> Refill
         requires { self.old.taken + length self.old.held < self.old.budget }
         ensures within { self.new.taken + length self.new.held ≤ self.new.budget }
-        ensures filled { Fills result self.old self.new (S.left source.old) (S.left source.new)
+        ensures filled { FillsLine result self.old self.new (S.left source.old) (S.left source.new)
             (S.read_count source.old) (S.read_count source.new) }
         ensures later { S.read_count source.old ≤ S.read_count source.new }
         ensures step { S.reads source.old source.new }

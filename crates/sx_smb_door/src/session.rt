@@ -8,10 +8,10 @@ ghost use Rattle.sx_book.specs.OneHistory.{history_of};
 ghost use Rattle.sx_book.specs.Passes.{HasOwnPlaces, HoldsSession, KeepsSessions};
 ghost use Rattle.sx_lines.specs.Answers.{answer_line, is_printed};
 ghost use Rattle.sx_lines.specs.declared.answer.LineAnswer.TheVariants.{Core};
-ghost use Rattle.sx_smb_door.specs.Asking.{caller_in, EndsAs, IsAsked, IsAnswered, IsFarewell, IsServed};
+ghost use Rattle.sx_smb_door.specs.Asking.{caller_in, EndsAs, IsAsked, IsLineAnswered, IsFarewell, AreLinesServed};
 ghost use Rattle.sx_book.specs.Reports.{no_tally, report_of, taken_at};
 ghost use Rattle.sx_smb_door.specs.Asking.{SaysQuit};
-ghost use Rattle.sx_smb_door.specs.Conversation.{Conversation, ServesLines, Talk, is_lock};
+ghost use Rattle.sx_smb_door.specs.Conversation.{SessionConversation, ServesLines, SessionTalk, locks_bytes};
 ghost use Rattle.sx_smb_door.specs.Conversation.{end_of, unstarted_report};
 
 use crate::lines::{LineReader, NextLine};
@@ -24,8 +24,8 @@ use sx_call::{Call, Stop};
 use sx_lines::{Line, LineAnswer, LineFault, call_of_line, print_line};
 
 /// Whether a call locks bytes.
-fn is_lock(call: &Call) -> bool
-    ensures { result ≡ is_lock call.now }
+fn locks_bytes(call: &Call) -> bool
+    ensures { result ≡ locks_bytes call.now }
 {
     matches!(call, Call::SmbLock(_))
 }
@@ -51,7 +51,7 @@ fn answer_call<R: Wait, C: Clock>(
 {
     // The reply to a session's call can be printed.
     session_replies_are_printed();
-    let locking = is_lock(&call);
+    let locking = locks_bytes(&call);
     let now = clock.now();
     tally.asked += 1;
     match office.ask(rt, pass, now, 0, Some(session), call) {
@@ -85,7 +85,7 @@ fn answer_line<R: Wait, C: Clock>(
     ensures answered { MatchOption result
         (SaysQuit line.now (record { pass = pass.old; clock = clock.old; tally = tally.old })
         (record { pass = pass.new; clock = clock.new; tally = tally.new }))
-        (λ answer. IsAnswered C.ticks (caller_in pass.old session.now) line.now
+        (λ answer. IsLineAnswered C.ticks (caller_in pass.old session.now) line.now
         (record { pass = pass.old; clock = clock.old; tally = tally.old })
         (record { pass = pass.new; clock = clock.new; tally = tally.new }) answer) }
 {
@@ -116,8 +116,8 @@ fn serve_lines<R: Wait, L: Link, C: Clock>(
     requires held { HoldsSession pass.old session.now }
     requires reader { (reader.old.held ≡ []) × (reader.old.taken ≡ 0) }
     requires tally { tally.old ≡ no_tally }
-    ensures served { (talk : Talk) × EndsAs result talk
-        × IsServed C.ticks (caller_in pass.old session.now) talk
+    ensures served { (talk : SessionTalk) × EndsAs result talk
+        × AreLinesServed C.ticks (caller_in pass.old session.now) talk
         (record { pass = pass.old; clock = clock.old; tally = tally.old })
         (record { pass = pass.new; clock = clock.new; tally = tally.new }) reader.new.taken
         × ServesLines (caller_in pass.old session.now) reader.old.budget [] talk
@@ -254,7 +254,7 @@ pub fn serve_session<R: Wait, L: Link, C: Clock>(
     budget: u64,
 ) -> ConnReport
     requires own { pass.old.office ≡ office.now }
-    ensures conversation { Conversation C.ticks (L.wrote link.old) (L.wrote link.new)
+    ensures conversation { SessionConversation C.ticks (L.wrote link.old) (L.wrote link.new)
         (record {
           who = pass.old.number;
           peer = L.peer_of link.old;

@@ -6,8 +6,8 @@ use Rattle.sx_base.specs.Sides.{Sides}
 use Rattle.sx_book.specs.declared.report.ConnEnd.TheVariants as finish
 use Rattle.sx_book.specs.OneHistory.{Outcome, Asks}
 use Rattle.sx_book.specs.Passes.{PassView}
-use Rattle.sx_smb_door.specs.Asking.{DoorState, caller_in, IsAnswered, SaysQuit}
-use Rattle.sx_smb_door.specs.Conversation.{Caller, answers_to}
+use Rattle.sx_smb_door.specs.Asking.{SessionDoorState, caller_in, IsLineAnswered, SaysQuit}
+use Rattle.sx_smb_door.specs.Conversation.{Caller, line_answers}
 use Rattle.sx_smb_door.specs.Lines.{line_stream, with_line_feed}
 use Rattle.sx_lines.specs.Answers.{answer_line}
 use Rattle.sx_lines.specs.declared.answer.LineAnswer.TheVariants.{Long}
@@ -43,8 +43,8 @@ loop-line-preserved g c =
     let inv = l.invariant in
     let w : Caller = caller_in c.args.pass.now c.args.session.now in
     let same : caller_in l.pass c.args.session.now ≡ w = ap (λ (p : PassView). caller_in p c.args.session.now) inv.pass in
-    let P : List ℕ → Type 0 = λ line. IsAnswered g.C.Clock.ticks (caller_in l.pass c.args.session.now) line (record { pass = l.pass; clock = l.clock; tally = l.tally }) (record { pass = c.answer_line-answer.new.pass; clock = c.answer_line-answer.new.clock; tally = c.answer_line-answer.new.tally }) c.in-Some.answer in
-    let Q : Caller → Type 0 = λ x. IsAnswered g.C.Clock.ticks x c.in-Line.line (record { pass = l.pass; clock = l.clock; tally = l.tally }) (record { pass = c.answer_line-answer.new.pass; clock = c.answer_line-answer.new.clock; tally = c.answer_line-answer.new.tally }) c.in-Some.answer in
+    let P : List ℕ → Type 0 = λ line. IsLineAnswered g.C.Clock.ticks (caller_in l.pass c.args.session.now) line (record { pass = l.pass; clock = l.clock; tally = l.tally }) (record { pass = c.answer_line-answer.new.pass; clock = c.answer_line-answer.new.clock; tally = c.answer_line-answer.new.tally }) c.in-Some.answer in
+    let Q : Caller → Type 0 = λ x. IsLineAnswered g.C.Clock.ticks x c.in-Line.line (record { pass = l.pass; clock = l.clock; tally = l.tally }) (record { pass = c.answer_line-answer.new.pass; clock = c.answer_line-answer.new.clock; tally = c.answer_line-answer.new.tally }) c.in-Some.answer in
     let a = subst Q same (subst P c.as_slice.ensures c.in-Some.ensures.answered) in
     let given = c.in-Line.ensures.answered in
     let reads = g.met.L.Link.read_keeps l.link c.next.new.source c.next.ensures.step in
@@ -82,8 +82,8 @@ returns-in-Err-clause-served g c =
     let inv = l.invariant in
     let w : Caller = caller_in c.args.pass.now c.args.session.now in
     let same : caller_in l.pass c.args.session.now ≡ w = ap (λ (p : PassView). caller_in p c.args.session.now) inv.pass in
-    let P : List ℕ → Type 0 = λ line. IsAnswered g.C.Clock.ticks (caller_in l.pass c.args.session.now) line (record { pass = l.pass; clock = l.clock; tally = l.tally }) (record { pass = c.answer_line-answer.new.pass; clock = c.answer_line-answer.new.clock; tally = c.answer_line-answer.new.tally }) c.in-Some.answer in
-    let Q : Caller → Type 0 = λ x. IsAnswered g.C.Clock.ticks x c.in-Line.line (record { pass = l.pass; clock = l.clock; tally = l.tally }) (record { pass = c.answer_line-answer.new.pass; clock = c.answer_line-answer.new.clock; tally = c.answer_line-answer.new.tally }) c.in-Some.answer in
+    let P : List ℕ → Type 0 = λ line. IsLineAnswered g.C.Clock.ticks (caller_in l.pass c.args.session.now) line (record { pass = l.pass; clock = l.clock; tally = l.tally }) (record { pass = c.answer_line-answer.new.pass; clock = c.answer_line-answer.new.clock; tally = c.answer_line-answer.new.tally }) c.in-Some.answer in
+    let Q : Caller → Type 0 = λ x. IsLineAnswered g.C.Clock.ticks x c.in-Line.line (record { pass = l.pass; clock = l.clock; tally = l.tally }) (record { pass = c.answer_line-answer.new.pass; clock = c.answer_line-answer.new.clock; tally = c.answer_line-answer.new.tally }) c.in-Some.answer in
     let a = subst Q same (subst P c.as_slice.ensures c.in-Some.ensures.answered) in
     let given = c.in-Line.ensures.answered in
     let reads = g.met.L.Link.read_keeps l.link c.next.new.source c.next.ensures.step in
@@ -116,7 +116,7 @@ returns-in-Ok-print_line-clause-served g c =
     let given = c.in-Long.ensures.answered in
     let reads = g.met.L.Link.read_keeps l.link c.next.new.source c.next.ensures.step in
     let puts = g.met.L.Link.put_keeps c.next.new.source c.print_line-in-Long.new.sink c.in-Ok-print_line.ensures.step in
-    let said = answers_to w inv.run.0.turns in
+    let said = line_answers w inv.run.0.turns in
     let rest = line_stream l.reader (g.L.Source.left l.link) in
     served_by g.C.Clock.ticks w c.args.reader.now.budget (g.L.Sink.wrote c.args.link.now) (g.L.Sink.wrote c.print_line-in-Long.new.sink) _ _
     (record { pass = c.args.pass.now; clock = c.args.clock.now; tally = c.args.tally.now }) (record { pass = l.pass; clock = l.clock; tally = l.tally }) (Some (finish.Closed (Some c.in-Long.at))) (finish.Closed (Some c.in-Long.at)) None
@@ -136,7 +136,7 @@ returns-in-Err-print_line-clause-served g c =
     let given = c.in-Long.ensures.answered in
     let reads = g.met.L.Link.read_keeps l.link c.next.new.source c.next.ensures.step in
     let puts = g.met.L.Link.put_keeps c.next.new.source c.print_line-in-Long.new.sink c.in-Err-print_line.ensures.step in
-    let said = answers_to w inv.run.0.turns in
+    let said = line_answers w inv.run.0.turns in
     let rest = line_stream l.reader (g.L.Source.left l.link) in
     served_by g.C.Clock.ticks w c.args.reader.now.budget (g.L.Sink.wrote c.args.link.now) (g.L.Sink.wrote c.print_line-in-Long.new.sink) _ _
     (record { pass = c.args.pass.now; clock = c.args.clock.now; tally = c.args.tally.now }) (record { pass = l.pass; clock = l.clock; tally = l.tally }) (Some finish.WriteFault) finish.WriteFault None

@@ -2,7 +2,7 @@ use Rattle.std.proofs.Common.{◌-◌, ◌≤◌, ◌≡◌}
 use Rattle.sx_book.specs.Passes.{HoldsSession, KeepsSessions}
 use Rattle.sx_smb_door.specs.Asking.{caller_in}
 use Rattle.sx_book.specs.Reports.{HasText}
-use Rattle.sx_smb_door.specs.Conversation.{answers_to}
+use Rattle.sx_smb_door.specs.Conversation.{line_answers}
 use Rattle.sx_smb_door.specs.Lines.{line_stream}
 use Rattle.sx_smb_door.proofs.Turns.{Going}
 use Rattle.sx_smb_door.proofs.session.serve_lines.Given as goal
@@ -13,7 +13,7 @@ invariant-loop-line g l = record {
   run : (going : Going g.C.Clock.ticks (caller_in l.fn.pass l.session)
       (line_stream l.fn.reader (g.L.Source.left l.fn.link)) (line_stream l.reader (g.L.Source.left l.link))
       (record { pass = l.fn.pass; clock = l.fn.clock; tally = l.fn.tally }) (record { pass = l.pass; clock = l.clock; tally = l.tally }) l.reader.taken)
-      × HasText (g.L.Sink.wrote l.fn.link) (g.L.Sink.wrote l.link) (answers_to (caller_in l.fn.pass l.session) going.turns);
+      × HasText (g.L.Sink.wrote l.fn.link) (g.L.Sink.wrote l.link) (line_answers (caller_in l.fn.pass l.session) going.turns);
   held : HoldsSession l.pass l.session;
   keeps : KeepsSessions l.fn.pass l.pass;
   own : l.pass.office ≡ l.office;

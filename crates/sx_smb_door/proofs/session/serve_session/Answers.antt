@@ -5,9 +5,9 @@ use Rattle.sx_book.specs.declared.report.ConnEnd.{ConnEnd}
 use Rattle.sx_call.specs.declared.calls.Call.TheVariants.{End}
 use Rattle.sx_lines.specs.Answers.{answer_line}
 use Rattle.sx_lines.specs.declared.answer.LineAnswer.TheVariants.{Core}
-use Rattle.sx_smb_door.specs.Asking.{DoorState, caller_in}
+use Rattle.sx_smb_door.specs.Asking.{SessionDoorState, caller_in}
 use Rattle.sx_book.specs.Reports.{no_tally, report_of, taken_at}
-use Rattle.sx_smb_door.specs.Conversation.{Conversation, LinkState, ServesLines}
+use Rattle.sx_smb_door.specs.Conversation.{SessionConversation, SessionLinkState, ServesLines}
 use Rattle.sx_smb_door.specs.LineReaderView.{LineReaderView}
 use Rattle.sx_smb_door.proofs.Asks.{receipt_line}
 use Rattle.sx_smb_door.proofs.Farewells.{ending, parted, served_again, closed_fits}
@@ -51,7 +51,7 @@ returns-clause-conversation g c =
     let again = served_again g.C.Clock.ticks w talk bye.result (record { pass = c.start.new.pass; clock = c.now-now.new.self; tally = no_tally }) (record { pass = lines.new.pass; clock = lines.new.clock; tally = lines.new.tally }) lines.new.reader.taken lines.ensures.served.2 in
     let reported : c.report.result ≡ report_of bye.result lines.new.reader.taken c.args.budget lines.new.tally =
     c.report.ensures ∙ ap (λ (n : ℕ). report_of bye.result n c.args.budget lines.new.tally) c.taken.ensures.value in
-    subst (λ (n : ℕ). Conversation g.C.Clock.ticks (g.L.Sink.wrote c.args.link.now) (g.L.Sink.wrote bye.new.sink) (visit_of c.args.pass.now c.end_session-receipt.new.pass n c.args.budget) (record { sides = sides; clock = c.args.clock.now }) (record { sides = sides'; clock = c.now-now-2.new.self }) c.report.result) c.peer-peer.ensures
+    subst (λ (n : ℕ). SessionConversation g.C.Clock.ticks (g.L.Sink.wrote c.args.link.now) (g.L.Sink.wrote bye.new.sink) (visit_of c.args.pass.now c.end_session-receipt.new.pass n c.args.budget) (record { sides = sides; clock = c.args.clock.now }) (record { sides = sides'; clock = c.now-now-2.new.self }) c.report.result) c.peer-peer.ensures
     (session_by g.C.Clock.ticks (g.L.Sink.wrote c.args.link.now) (g.L.Sink.wrote bye.new.sink) c.peer-peer.result c.args.budget c.args.pass.now c.end_session-receipt.new.pass
     (record { pass = c.start.new.pass; clock = c.now-now.new.self; tally = no_tally }) (record { pass = lines.new.pass; clock = lines.new.clock; tally = lines.new.tally })
     c.args.clock.now c.now-now-2.new.self c.now-now.result c.now-now-2.result sides sides' c.in-Ok._receipt c.end_session-receipt.result
@@ -60,7 +60,7 @@ returns-clause-conversation g c =
 pub returns-in-Err-clause-conversation : goal.returns-in-Err-clause-conversation
 returns-in-Err-clause-conversation g c =
     let sides : Sides = record { left = g.L.Source.left c.args.link.now; reads = g.L.Source.read_count c.args.link.now; writes = g.L.Sink.write_count c.args.link.now } in
-    subst (λ (n : ℕ). Conversation g.C.Clock.ticks (g.L.Sink.wrote c.args.link.now) (g.L.Sink.wrote c.args.link.now) (visit_of c.args.pass.now c.start.new.pass n c.args.budget) (record { sides = sides; clock = c.args.clock.now }) (record { sides = sides; clock = c.now-now.new.self }) c.refused.result) c.peer-peer.ensures
+    subst (λ (n : ℕ). SessionConversation g.C.Clock.ticks (g.L.Sink.wrote c.args.link.now) (g.L.Sink.wrote c.args.link.now) (visit_of c.args.pass.now c.start.new.pass n c.args.budget) (record { sides = sides; clock = c.args.clock.now }) (record { sides = sides; clock = c.now-now.new.self }) c.refused.result) c.peer-peer.ensures
     (unstarted_by g.C.Clock.ticks (g.L.Sink.wrote c.args.link.now) c.peer-peer.result c.args.budget c.args.pass.now c.start.new.pass c.now-now.result c.args.clock.now c.now-now.new.self sides c.in-Err.stop c.refused.result c.now-now.ensures.step c.in-Err.ensures.stop c.refused.ensures)
 
 pub returns-clause-held : goal.returns-clause-held
