@@ -18,7 +18,7 @@ returns-in-Ok-clause-asked g c =
     let line : has_line c.in-Ok.receipt.reply ≡ true = receipt_line c.session_replies_are_printed.ensures c.args.pass.now c.ask.new.pass c.args.session.now c.now-now.result 0 c.args.call c.in-Ok.receipt door c.in-Ok.ensures.ok in
     let P : Bool → Type 0 = λ (locking : Bool). IsAsked g.C.Clock.ticks c.args.session.now c.args.call (record { pass = c.args.pass.now; clock = c.args.clock.now; tally = c.args.tally.now })
     (record { pass = c.ask.new.pass; clock = c.now-now.new.self; tally = record c.args.tally.now { asked = c.args.tally.now.asked + 1 } }) (Core c.in-Ok.receipt.place c.in-Ok.receipt.reply locking) in
-    subst P (sym c.is_lock-locking.ensures) (
+    subst P (sym c.locks_bytes-locking.ensures) (
     appended_call g.C.Clock.ticks c.args.session.now c.args.call (record { pass = c.args.pass.now; clock = c.args.clock.now; tally = c.args.tally.now })
     (record { pass = c.ask.new.pass; clock = c.now-now.new.self; tally = record c.args.tally.now { asked = c.args.tally.now.asked + 1 } })
     c.now-now.result c.in-Ok.receipt line (c.in-Ok.ensures.held c.args.session.now c.requires.held) c.now-now.ensures.step c.in-Ok.ensures.ok refl)
