@@ -15,7 +15,6 @@ use atomic_table::{Refused, Table};
 use std::alloc::{AllocFailed, Global};
 use std::snapshot::Snapshot;
 use std::sync::Wait;
-use std::thread;
 
 // Draws a ticket.
 pub(crate) fn draw<B: Booked, R: Wait>(rt: &R, board: &SharedBoard<B>, place: &mut Place<B>) -> u64
@@ -25,12 +24,13 @@ pub(crate) fn draw<B: Booked, R: Wait>(rt: &R, board: &SharedBoard<B>, place: &m
     ensures drawn { place.new.me ≡ (with_ticket result place.old.me.0, []) }
 {
     for _ in rt.forever() {
-        // Behind the last ticket there is none, and the seat would wait for good.
         let next = board.peek(0);
-        if next < u64::MAX && board.compare_exchange::<Draw>(place, 0, next, next + 1) == next {
+        if next == u64::MAX {
+            // Behind the last ticket there is none, and the seat waits for good.
+            board.park(rt, 0, u32::MAX);
+        } else if board.compare_exchange::<Draw>(place, 0, next, next + 1) == next {
             return next;
         }
-        thread::yield_now();
     }
     unreachable!()
 }
@@ -48,10 +48,11 @@ pub(crate) fn wait<B: Booked, R: Wait>(
     ensures begun { TurnBegins B.stands B.lasting B.who place.old.me place.new.me }
 {
     for _ in rt.forever() {
-        if board.load::<Look>(place, 1) == ticket {
+        let served = board.load::<Look>(place, 1);
+        if served == ticket {
             return;
         }
-        thread::yield_now();
+        board.park(rt, 1, (served % (1 << 32)) as u32);
     }
     unreachable!()
 }
@@ -63,7 +64,11 @@ pub(crate) fn leave<B: Booked>(board: &SharedBoard<B>, place: &mut Place<B>)
     ensures same { (place.new.table_id ≡ place.old.table_id) × (place.new.id ≡ place.old.id) }
     ensures ended { TurnEnds B.stands place.old.me place.new.me }
 {
-    board.fetch_add::<Next>(place, 1, 1);
+    let served = board.fetch_add::<Next>(place, 1, 1);
+    // Who draws a ticket after this look finds the next one served.
+    if board.peek(0) != served.wrapping_add(1) {
+        board.wake_all(1);
+    }
 }
 
 // Waits for a turn, and takes the value in it.
