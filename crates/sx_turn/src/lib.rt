@@ -11,6 +11,7 @@
 //! That it comes is not promised.
 #![tactic(auto)]
 
+mod bells;
 mod plain;
 mod plays;
 mod rule;
