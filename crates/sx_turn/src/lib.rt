@@ -8,9 +8,10 @@
 //! a number that no turn changes, which each seat knows.
 //!
 //! The lock is a ticket lock: each call that waits draws a ticket, and its turn comes when the ticket is served.
-//! That it comes is not promised.
+//! Until then it sleeps, and the call whose turn ends wakes the next one. That a turn comes is not promised.
 #![tactic(auto)]
 
+mod bells;
 mod plain;
 mod plays;
 mod rule;

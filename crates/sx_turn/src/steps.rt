@@ -8,6 +8,7 @@ ghost use Rattle.sx_turn.specs.Views.{Extends, IsSound};
 ghost use Rattle.sx_turn.specs.Moves.{IsBoard, IsIdle, TurnBegins, MayEnd, TurnEnds, MayPutBack, CountedInTurn};
 ghost use Rattle.sx_turn.specs.Moves.{NumberDrawn, IsClosed, TakenOut, StillOut};
 
+use crate::bells::Bells;
 use crate::plays::{Close, Count, Draw, Enrol, Look, Merge, Next, Recall};
 use crate::rule::{Board, Booked, Place, SharedBoard};
 use crate::seat::MAX_SEATS;
@@ -15,7 +16,6 @@ use atomic_table::{Refused, Table};
 use std::alloc::{AllocFailed, Global};
 use std::snapshot::Snapshot;
 use std::sync::Wait;
-use std::thread;
 
 // Draws a ticket.
 pub(crate) fn draw<B: Booked, R: Wait>(rt: &R, board: &SharedBoard<B>, place: &mut Place<B>) -> u64
@@ -25,12 +25,13 @@ pub(crate) fn draw<B: Booked, R: Wait>(rt: &R, board: &SharedBoard<B>, place: &m
     ensures drawn { place.new.me ≡ (with_ticket result place.old.me.0, []) }
 {
     for _ in rt.forever() {
-        // Behind the last ticket there is none, and the seat would wait for good.
         let next = board.peek(0);
-        if next < u64::MAX && board.compare_exchange::<Draw>(place, 0, next, next + 1) == next {
+        if next == u64::MAX {
+            // Behind the last ticket there is none, and the seat waits for good.
+            board.park(rt, 0, u32::MAX);
+        } else if board.compare_exchange::<Draw>(place, 0, next, next + 1) == next {
             return next;
         }
-        thread::yield_now();
     }
     unreachable!()
 }
@@ -39,6 +40,7 @@ pub(crate) fn draw<B: Booked, R: Wait>(rt: &R, board: &SharedBoard<B>, place: &m
 pub(crate) fn wait<B: Booked, R: Wait>(
     rt: &R,
     board: &SharedBoard<B>,
+    bells: &Bells,
     place: &mut Place<B>,
     ticket: u64,
 )
@@ -48,28 +50,34 @@ pub(crate) fn wait<B: Booked, R: Wait>(
     ensures begun { TurnBegins B.stands B.lasting B.who place.old.me place.new.me }
 {
     for _ in rt.forever() {
+        let heard = bells.listen(ticket);
         if board.load::<Look>(place, 1) == ticket {
             return;
         }
-        thread::yield_now();
+        bells.sleep(rt, ticket, heard);
     }
     unreachable!()
 }
 
 // Ends the turn.
-pub(crate) fn leave<B: Booked>(board: &SharedBoard<B>, place: &mut Place<B>)
+pub(crate) fn leave<B: Booked>(board: &SharedBoard<B>, bells: &Bells, place: &mut Place<B>)
     requires board { (place.old.table_id ≡ board.now.table_id) × IsBoard board.now.table_id }
     requires whole { MayEnd B.stands B.lasting B.who place.old.me }
     ensures same { (place.new.table_id ≡ place.old.table_id) × (place.new.id ≡ place.old.id) }
     ensures ended { TurnEnds B.stands place.old.me place.new.me }
 {
-    board.fetch_add::<Next>(place, 1, 1);
+    let next = board.fetch_add::<Next>(place, 1, 1).wrapping_add(1);
+    // Who draws this ticket after the look finds it served.
+    if board.peek(0) != next {
+        bells.ring(next);
+    }
 }
 
 // Waits for a turn, and takes the value in it.
 pub(crate) fn take_value<B: Booked, R: Wait>(
     rt: &R,
     board: &SharedBoard<B>,
+    bells: &Bells,
     place: &mut Place<B>,
 ) -> B
     requires board { (place.old.table_id ≡ board.now.table_id) × IsBoard board.now.table_id }
@@ -81,12 +89,17 @@ pub(crate) fn take_value<B: Booked, R: Wait>(
     ensures lasting { place.old.me.0.lasting ≡ Some (B.lasting result) }
 {
     let ticket = draw(rt, board, place);
-    wait(rt, board, place, ticket);
+    wait(rt, board, bells, place, ticket);
     board.exchange(place, 0, None).unwrap()
 }
 
 // Puts the value back, and ends the turn.
-pub(crate) fn give_value<B: Booked>(board: &SharedBoard<B>, place: &mut Place<B>, value: B)
+pub(crate) fn give_value<B: Booked>(
+    board: &SharedBoard<B>,
+    bells: &Bells,
+    place: &mut Place<B>,
+    value: B,
+)
     requires board { (place.old.table_id ≡ board.now.table_id) × IsBoard board.now.table_id }
     requires may { MayPutBack B.stands B.lasting B.who place.old.me value }
     ensures same { (place.new.table_id ≡ place.old.table_id) × (place.new.id ≡ place.old.id) }
@@ -94,13 +107,14 @@ pub(crate) fn give_value<B: Booked>(board: &SharedBoard<B>, place: &mut Place<B>
 {
     let empty = board.exchange(place, 0, Some(value));
     let None = empty else { unreachable!() };
-    leave(board, place);
+    leave(board, bells, place);
 }
 
 // Waits for a turn, and counts the numbers that were given out in it.
 pub(crate) fn count_callers<B: Booked, R: Wait>(
     rt: &R,
     board: &SharedBoard<B>,
+    bells: &Bells,
     place: &mut Place<B>,
 ) -> u64
     requires board { (place.old.table_id ≡ board.now.table_id) × IsBoard board.now.table_id }
@@ -109,7 +123,7 @@ pub(crate) fn count_callers<B: Booked, R: Wait>(
     ensures counted { CountedInTurn B.stands B.lasting B.who place.old.me result place.new.me }
 {
     let ticket = draw(rt, board, place);
-    wait(rt, board, place, ticket);
+    wait(rt, board, bells, place, ticket);
     board.load::<Count>(place, 2)
 }
 
@@ -118,6 +132,7 @@ pub(crate) fn count_callers<B: Booked, R: Wait>(
 pub(crate) fn draw_number<B: Booked, R: Wait>(
     rt: &R,
     board: &SharedBoard<B>,
+    bells: &Bells,
     place: &mut Place<B>,
 ) -> u64
     requires board { (place.old.table_id ≡ board.now.table_id) × IsBoard board.now.table_id }
@@ -126,13 +141,13 @@ pub(crate) fn draw_number<B: Booked, R: Wait>(
     ensures same { (place.new.table_id ≡ place.old.table_id) × (place.new.id ≡ place.old.id) }
     ensures drawn { NumberDrawn B.who place.old.me.0 result place.new.me }
 {
-    let callers = count_callers(rt, board, place);
+    let callers = count_callers(rt, board, bells, place);
     if callers < MAX_SEATS {
         board.fetch_add::<Enrol>(place, 2, 1);
-        leave(board, place);
+        leave(board, bells, place);
         return callers;
     }
-    leave(board, place);
+    leave(board, bells, place);
     callers
 }
 
@@ -187,6 +202,7 @@ pub(crate) fn join_places<B: Booked>(
 pub(crate) fn take_out<B: Booked, R: Wait>(
     rt: &R,
     board: &SharedBoard<B>,
+    bells: &Bells,
     place: &mut Place<B>,
     owns: u64,
 ) -> Result<B, u64>
@@ -197,13 +213,13 @@ pub(crate) fn take_out<B: Booked, R: Wait>(
     ensures ok { IfOk result (λ v. TakenOut B.stands B.lasting B.who place.old.me.0 v × IsClosed place.new.me) }
     ensures err { IfErr result (λ n. StillOut B.who owns place.old.me n place.new.me) }
 {
-    let callers = count_callers(rt, board, place);
+    let callers = count_callers(rt, board, bells, place);
     if callers <= owns {
         let value = board.exchange(place, 0, None).unwrap();
         board.load::<Close>(place, 0);
         return Ok(value);
     }
-    leave(board, place);
+    leave(board, bells, place);
     Err(callers)
 }
 

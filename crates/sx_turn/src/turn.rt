@@ -8,6 +8,7 @@ ghost use Rattle.sx_turn.specs.Seats.{pairs_of, HasPlacesIn, IsExact, HasNumbers
 ghost use Rattle.sx_turn.specs.Seats.{HasAllNumbers, OwnsEachEntry, HasEntriesBelow, first_seat, new_seat, after_take};
 ghost use Rattle.sx_turn.specs.Seats.{MayGive, after_give, after_look, after_join};
 
+use crate::bells::Bells;
 use crate::plays::Branch;
 use crate::rule::{Board, Booked};
 use crate::seat::{Held, MAX_SEATS, Seat};
@@ -24,6 +25,7 @@ use std::sync::Wait;
 /// A turn ends by `close`, and can't be dropped.
 pub struct Turn<B: Booked> {
     table: Board<B>,
+    bells: Bells,
 }
 
 impl<B: Booked> Model for Turn<B> {
@@ -73,7 +75,8 @@ impl<B: Booked> Turn<B> {
             number: 0,
             owns: 1,
         };
-        Ok((Turn { table }, seat))
+        let bells = Bells::new();
+        Ok((Turn { table, bells }, seat))
     }
 
     /// A new seat with a number of its own, or `NoSeat(64)` exactly where all 64 numbers were given out.
@@ -100,7 +103,7 @@ impl<B: Booked> Turn<B> {
         let board = &self.table.shared;
         recall(board, &mut seat.place);
         let mut place = board.split_seat::<Branch>(&mut seat.place);
-        let callers = draw_number(rt, board, &mut place);
+        let callers = draw_number(rt, board, &self.bells, &mut place);
         if callers < MAX_SEATS {
             // A copy of the new seat's view tells the asking one what that has seen.
             let note = board.split_seat::<Branch>(&mut place);
@@ -149,7 +152,7 @@ impl<B: Booked> Turn<B> {
         ensures exact { HasPlacesIn B.who (B.stands result) seat.old × IsExact B.who seat.old }
         ensures lasting { B.lasting result ≡ seat.old.lasting }
     {
-        let value = take_value(rt, &self.table.shared, &mut seat.place);
+        let value = take_value(rt, &self.table.shared, &self.bells, &mut seat.place);
         Held { value }
     }
 
@@ -162,7 +165,7 @@ impl<B: Booked> Turn<B> {
         ensures given { seat.new ≡ after_give (B.stands held) seat.old }
     {
         let Held { value } = held;
-        give_value(&self.table.shared, &mut seat.place, value);
+        give_value(&self.table.shared, &self.bells, &mut seat.place, value);
     }
 
     /// Waits for the seat's turn, and takes the value out for good, exactly where each number that was given out
@@ -185,19 +188,19 @@ impl<B: Booked> Turn<B> {
         ensures seen { IfErr result (λ f. IsPrefix seat.seen f.token.seen × HasPlacesIn B.who f.token.seen seat
             × IsExact B.who seat) }
     {
-        let Turn { table } = self;
+        let Turn { table, bells } = self;
         let Seat {
             mut place,
             number,
             owns,
         } = seat;
-        match take_out(rt, &table.shared, &mut place, owns) {
+        match take_out(rt, &table.shared, &bells, &mut place, owns) {
             Ok(value) => {
                 free_board(table, place);
                 Ok(value)
             }
             Err(callers) => Err(CloseFault {
-                whole: Turn { table },
+                whole: Turn { table, bells },
                 token: Seat {
                     place,
                     number,
@@ -215,7 +218,7 @@ impl<B: Booked + Drop> CloseFault<Turn<B>, Seat<B>> {
         ensures { result ≡ self.out }
     {
         let CloseFault { whole, token, out } = self;
-        let Turn { table } = whole;
+        let Turn { table, bells: _ } = whole;
         let Seat {
             place,
             number: _,

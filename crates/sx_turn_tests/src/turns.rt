@@ -5,7 +5,8 @@ ghost use Rattle.std.specs.Prelude.{◌≡◌, ◌<◌, ◌++◌, ◌∷◌, [],
 use std::alloc::{AllocError, Global};
 use std::process::Abort;
 use std::sync::Wait;
-use std::thread::{Threads, for_each_mut};
+use std::thread::{Threads, for_each_mut, sleep};
+use std::time::{Clock, Duration};
 use sx_turn::{Booked, CloseFault, Seat, SeatFault, Turn, rule_in_words};
 
 // One line of a log, and who wrote it.
@@ -99,6 +100,19 @@ fn write<R: Wait>(rt: &R, turn: &Turn<Log>, seat: &mut Seat<Log>, what: u64) -> 
     written
 }
 
+// Writes a line, and keeps the value so long that all others come to wait.
+fn write_slowly<R: Wait + Clock>(rt: &R, turn: &Turn<Log>, seat: &mut Seat<Log>, what: u64) -> bool
+    requires own { (seat.old.turn ≡ turn.now) × (seat.old.taken ≡ None) }
+    ensures same { (seat.new.turn ≡ turn.now) × (seat.new.taken ≡ None) }
+{
+    let who = seat.number();
+    let mut held = turn.take(rt, seat);
+    sleep(rt, Duration::from_millis(5));
+    let written = held.value_mut().write(Line { who, what }).is_ok();
+    turn.give(seat, held);
+    written
+}
+
 // A thread's seat, and how many lines it is to write.
 struct Lane {
     seat: Seat<Log>,
@@ -125,6 +139,18 @@ fn run_lane<R: Wait>(rt: &R, turn: &Turn<Log>, lane: &mut Lane)
 {
     for what in 0..lane.count {
         if !write(rt, turn, &mut lane.seat, what) {
+            lane.no_memory = true;
+        }
+    }
+}
+
+// Writes the lane's lines, each slowly.
+fn run_lane_slowly<R: Wait + Clock>(rt: &R, turn: &Turn<Log>, lane: &mut Lane)
+    requires own { (lane.old.seat.turn ≡ turn.now) × (lane.old.seat.taken ≡ None) }
+    ensures same { (lane.new.seat.turn ≡ turn.now) × (lane.new.seat.taken ≡ None) }
+{
+    for what in 0..lane.count {
+        if !write_slowly(rt, turn, &mut lane.seat, what) {
             lane.no_memory = true;
         }
     }
@@ -166,6 +192,21 @@ fn run_lanes<R: Threads + Wait + Sync>(rt: &R, turn: &Turn<Log>, lanes: &mut [La
 {
     let threads = lanes.len();
     for_each_mut(rt, lanes, threads, &|_, lane| run_lane(rt, turn, lane));
+}
+
+fn run_lanes_slowly<R: Threads + Wait + Clock + Sync>(rt: &R, turn: &Turn<Log>, lanes: &mut [Lane])
+    requires own { All (λ l. (l.seat.turn ≡ turn.now) × (l.seat.taken ≡ None)) lanes.old }
+    requires some { 0 < length lanes.old }
+    ensures same { All (λ l. (l.seat.turn ≡ turn.now) × (l.seat.taken ≡ None)) lanes.new }
+    ensures count { length lanes.new ≡ length lanes.old }
+{
+    let threads = lanes.len();
+    for_each_mut(
+        rt,
+        lanes,
+        threads,
+        &|_, lane| run_lane_slowly(rt, turn, lane),
+    );
 }
 
 fn run_lanes_with_children<R: Threads + Wait + Sync>(rt: &R, turn: &Turn<Log>, lanes: &mut [Lane])
@@ -213,6 +254,29 @@ fn two_threads_write_one_log(rt: HostRuntime) {
     assert_eq!(rt; log.lines.len(), 2000);
     assert_eq!(rt; log.numbered_lines(1), Some(1000));
     assert_eq!(rt; log.numbered_lines(2), Some(1000));
+}
+
+// Three of four threads sleep at any time, so the test would not end if a turn that ends woke nobody.
+#[test]
+fn threads_that_wait_are_woken(rt: HostRuntime) {
+    let (turn, mut main) = begun(&rt, rt.alloc());
+    let mut lanes = [
+        new_lane(&rt, &turn, &mut main, 10),
+        new_lane(&rt, &turn, &mut main, 10),
+        new_lane(&rt, &turn, &mut main, 10),
+        new_lane(&rt, &turn, &mut main, 10),
+    ];
+    run_lanes_slowly(&rt, &turn, &mut lanes);
+    let [first, second, third, fourth] = lanes;
+    land(&rt, &turn, &mut main, first);
+    land(&rt, &turn, &mut main, second);
+    land(&rt, &turn, &mut main, third);
+    land(&rt, &turn, &mut main, fourth);
+    let log = closed(&rt, turn, main);
+    assert_eq!(rt; log.lines.len(), 40);
+    for who in 1..5 {
+        assert_eq!(rt; log.numbered_lines(who), Some(10));
+    }
 }
 
 #[test]
