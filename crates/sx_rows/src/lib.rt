@@ -8,11 +8,15 @@ mod bytes_of_files;
 #[cfg(test)]
 mod directories;
 #[cfg(test)]
+mod faults;
+#[cfg(test)]
 mod files;
 #[cfg(test)]
 mod handles;
 #[cfg(test)]
 mod leases;
+#[cfg(test)]
+mod limits;
 #[cfg(test)]
 mod locks;
 #[cfg(test)]
