@@ -6,8 +6,8 @@
 //!     \   the request's line goes on
 //!     >   a header of the request, but for the date, the version of the service and the signature
 //!     +   the request's body goes on
-//!     *   the last two digits of the answer's number, the time of day of the call, and the status with its phrase;
-//!         the number is the call's place in the history
+//!     *   the last digits of the answer's number, which is the call's place in the history, the time of day of the
+//!         call, and the status with its phrase
 //!     <   another header of the answer
 //!     =   the answer's body goes on
 //!     #   a remark
@@ -152,11 +152,10 @@ fn put_front(rt: &impl Abort, text: &mut Vec<u8>, starred: &str) {
     let (at, status) = worded(rt, rest);
     put(rt, text, b"HTTP/1.1 ");
     put_line(rt, text, status);
-    put(
-        rt,
-        text,
-        b"x-ms-request-id: 00000000-0000-0000-0000-0000000000",
-    );
+    put(rt, text, b"x-ms-request-id: 00000000-0000-0000-0000-");
+    for _ in place.len()..12 {
+        put(rt, text, b"0");
+    }
     put_line(rt, text, place);
     put_line(rt, text, "x-ms-version: 2020-10-02");
     put(rt, text, b"Date: Sat, 01 Jan 2022 ");
@@ -218,7 +217,7 @@ pub(crate) fn served<R: Abort + Wait>(
     )
 }
 
-fn check(rt: &impl Abort, report: ConnReport, taken: u64) {
+pub(crate) fn check(rt: &impl Abort, report: ConnReport, taken: u64) {
     assert!(rt; report.end == ConnEnd::Ended);
     assert!(rt; report.taken == taken);
     assert!(rt; report.asked <= 1 && !report.starved);

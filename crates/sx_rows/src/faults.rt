@@ -2,6 +2,7 @@
 
 use crate::asking::{SHARE, asks, put, request, same, wanted};
 use crate::opening::{Outside, begun, closes, new_year};
+use crate::opens::READ_AGAIN;
 use crate::saying::{lines, told};
 use crate::{asking, saying};
 use std::alloc::Global;
@@ -12,14 +13,6 @@ use sx_book::{ConnEnd, ConnReport};
 
 /// The number of a call that no link here makes: none fails.
 pub(crate) const NONE_FAILS: u64 = 1_000_000;
-
-/// A file that is made, written, read and closed, and read behind its close.
-const READ_AGAIN: &str = "\
-open data a.txt rw rwd create file => OK 3 open 1 created 2 0
-write 1 0 68690a => OK 4 write 3 3
-read 1 0 16 => OK 5 read 3 68690a
-close 1 => OK 6 close kept
-read 1 0 16 => ERR INVALID_HANDLE 7 handle 1.1";
 
 /// Three requests.
 const REQUESTS: &str = r#"PUT /data?restype=share

@@ -33,3 +33,5 @@ mod shares;
 mod snapshots;
 #[cfg(test)]
 mod sparse;
+#[cfg(test)]
+mod upload;

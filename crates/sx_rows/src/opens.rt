@@ -7,6 +7,22 @@ use std::alloc::Global;
 use std::process::Abort;
 use std::sync::Wait;
 
+/// A file that is made, written, read and closed, and read behind its close.
+pub(crate) const READ_AGAIN: &str = "\
+open data a.txt rw rwd create file => OK 3 open 1 created 2 0
+write 1 0 68690a => OK 4 write 3 3
+read 1 0 16 => OK 5 read 3 68690a
+close 1 => OK 6 close kept
+read 1 0 16 => ERR INVALID_HANDLE 7 handle 1.1";
+
+/// Opens by a name that is there, and by one that is absent.
+const BY_NAME: &str = "\
+open data a.txt rw rwd create file => OK 3 open 1 created 2 0
+open data a.txt r rwd create file => ERR OBJECT_NAME_COLLISION 4 there id 2
+open data b.txt r rwd existing file => ERR OBJECT_NAME_NOT_FOUND 5 no name
+open data b.txt r rwd either file => OK 6 open 2 created 3 0
+open data A.TXT r rwd either file => OK 7 open 3 opened 2 0";
+
 const FIRST_OPEN: &str = "open data a.txt r w create file => OK 4 open 1 created 2 0";
 
 const SECOND_OPEN: &str = "open data a.txt w r existing file => OK 5 open 1 opened 2 0";
@@ -135,6 +151,16 @@ fn both_say<R: Abort + Wait>(
     ended(rt, &office, &mut pass, &mut outside, second);
     ended(rt, &office, &mut pass, &mut outside, first);
     closes(rt, office, pass, entries);
+}
+
+#[test]
+fn a_file_that_is_read_behind_its_close(rt: HostRuntime) {
+    before_requests(&rt, rt.alloc(), READ_AGAIN, "", 8);
+}
+
+#[test]
+fn opens_by_name(rt: HostRuntime) {
+    before_requests(&rt, rt.alloc(), BY_NAME, "", 8);
 }
 
 #[test]
