@@ -1,8 +1,22 @@
 //! Requests of a table, asked of an office over connections in memory, and their answers, byte by byte.
+//!
+//! A table is one text, whose rows are parted by an empty line. A row begins with the request's line, and each further
+//! line begins with a mark:
+//!
+//!     \   the request's line goes on
+//!     >   a header of the request, but for the date, the version of the service and the signature
+//!     +   the request's body goes on
+//!     *   the last digits of the answer's number, which is the call's place in the history, the time of day of the
+//!         call, and the status with its phrase
+//!     <   another header of the answer
+//!     =   the answer's body goes on
+//!     #   a remark
+//!
+//! In a body `~` stands for a byte 0. Requests are signed for the account `acct` under the key `key`.
 ghost use Rattle.std.specs.Prelude.{◌≡◌};
 ghost use Rattle.sx_book.specs.Passes.{IsSamePass, KeepsSessions};
 
-use crate::opening::Outside;
+use crate::opening::{Outside, begun, closes, new_year};
 use std::alloc::Global;
 use std::process::Abort;
 use std::sync::Wait;
@@ -12,23 +26,13 @@ use sx_http::{Head, read_head};
 use sx_key::{Account, sign};
 use sx_rest_door::serve_conn;
 
-/// A request and its answer. Requests are signed for the account `acct` under the key `key`.
-#[derive(Clone, Copy)]
-pub(crate) struct Ask {
-    /// The method and the target.
-    pub asks: &'static str,
-    /// The headers, but for the date, the version of the service and the signature.
-    pub with: &'static [&'static str],
-    /// The body, whose length is among the headers.
-    pub body: &'static str,
-    /// The status with its phrase, the last two digits of the answer's number, which is the call's place in the
-    /// history, and the time of day of the call.
-    pub told: (&'static str, &'static str, &'static str),
-    /// The other headers of the answer.
-    pub heads: &'static [&'static str],
-    /// The body of the answer.
-    pub says: &'static str,
-}
+/// The share `data` is made, in the year's first moment.
+pub(crate) const SHARE: &str = r#"PUT /data?restype=share
+> Content-Length: 0
+* 01 00:00:00 201 Created
+< Last-Modified: Sat, 01 Jan 2022 00:00:00 GMT
+< ETag: "0x0000000000000001"
+< Content-Length: 0"#;
 
 pub(crate) fn put(rt: &impl Abort, text: &mut Vec<u8>, bytes: &[u8]) {
     assert!(rt; text.extend_from_slice(bytes).is_ok(), "no memory");
@@ -39,20 +43,68 @@ pub(crate) fn put_line(rt: &impl Abort, text: &mut Vec<u8>, line: &str) {
     put(rt, text, b"\r\n");
 }
 
-pub(crate) fn put_lines(rt: &impl Abort, text: &mut Vec<u8>, lines: &[&str]) {
-    for line in lines.iter() {
-        put_line(rt, text, line);
+/// Puts what stands behind this mark, a line of its own each time.
+fn put_lines(rt: &impl Abort, text: &mut Vec<u8>, row: &str, mark: &str) {
+    for line in row.lines() {
+        if let Some(rest) = line.strip_prefix(mark) {
+            put_line(rt, text, rest);
+        }
+    }
+}
+
+/// Puts what stands behind this mark, in one piece.
+fn put_pieces(rt: &impl Abort, text: &mut Vec<u8>, row: &str, mark: &str) {
+    for line in row.lines() {
+        if let Some(rest) = line.strip_prefix(mark) {
+            put(rt, text, rest.as_bytes());
+        }
+    }
+}
+
+/// Puts a body, whose pieces stand behind this mark.
+fn put_body(rt: &impl Abort, alloc: Global, text: &mut Vec<u8>, row: &str, mark: &str) {
+    let mut body = Vec::new(alloc);
+    put_pieces(rt, &mut body, row, mark);
+    for byte in body.iter() {
+        let put = if *byte == b'~' { 0 } else { *byte };
+        assert!(rt; text.push(put).is_ok(), "no memory");
+    }
+}
+
+/// The row's first line, and the others.
+fn parted<'a>(rt: &impl Abort, row: &'a str) -> (&'a str, &'a str) {
+    match row.split_once('\n') {
+        Some(parts) => parts,
+        None => panic!(rt; "{row} is no row"),
+    }
+}
+
+/// A word, and what stands behind the space behind it.
+fn worded<'a>(rt: &impl Abort, text: &'a str) -> (&'a str, &'a str) {
+    match text.split_once(' ') {
+        Some(parts) => parts,
+        None => panic!(rt; "{text} is one word"),
+    }
+}
+
+/// The line that is marked by a star.
+fn starred<'a>(rt: &impl Abort, row: &'a str) -> &'a str {
+    match row.lines().find_map(|line| line.strip_prefix("* ")) {
+        Some(line) => line,
+        None => panic!(rt; "{row} wants no answer"),
     }
 }
 
 /// The request's line and headers, without a signature.
-fn unsigned(rt: &impl Abort, alloc: Global, ask: &Ask) -> Vec<u8> {
+fn unsigned(rt: &impl Abort, alloc: Global, row: &str) -> Vec<u8> {
+    let (first, others) = parted(rt, row);
     let mut text = Vec::new(alloc);
-    put(rt, &mut text, ask.asks.as_bytes());
+    put(rt, &mut text, first.as_bytes());
+    put_pieces(rt, &mut text, others, "\\ ");
     put_line(rt, &mut text, " HTTP/1.1");
     put_line(rt, &mut text, "x-ms-date: Sat, 01 Jan 2022 00:00:00 GMT");
     put_line(rt, &mut text, "x-ms-version: 2020-10-02");
-    put_lines(rt, &mut text, ask.with);
+    put_lines(rt, &mut text, others, "> ");
     text
 }
 
@@ -86,33 +138,38 @@ pub(crate) fn put_signature(
 }
 
 /// The whole request, signed.
-pub(crate) fn request(rt: &impl Abort, alloc: Global, account: &Account, ask: &Ask) -> Vec<u8> {
-    let mut text = unsigned(rt, alloc, ask);
+pub(crate) fn request(rt: &impl Abort, alloc: Global, account: &Account, row: &str) -> Vec<u8> {
+    let mut text = unsigned(rt, alloc, row);
     put_signature(rt, alloc, account, &mut text);
     put_line(rt, &mut text, "");
-    put(rt, &mut text, ask.body.as_bytes());
+    put_body(rt, alloc, &mut text, row, "+ ");
     text
 }
 
+/// Puts the answer's line, number, version and date.
+fn put_front(rt: &impl Abort, text: &mut Vec<u8>, starred: &str) {
+    let (place, rest) = worded(rt, starred);
+    let (at, status) = worded(rt, rest);
+    put(rt, text, b"HTTP/1.1 ");
+    put_line(rt, text, status);
+    put(rt, text, b"x-ms-request-id: 00000000-0000-0000-0000-");
+    for _ in place.len()..12 {
+        put(rt, text, b"0");
+    }
+    put_line(rt, text, place);
+    put_line(rt, text, "x-ms-version: 2020-10-02");
+    put(rt, text, b"Date: Sat, 01 Jan 2022 ");
+    put(rt, text, at.as_bytes());
+    put_line(rt, text, " GMT");
+}
+
 /// The whole answer that the row wants.
-pub(crate) fn wanted(rt: &impl Abort, alloc: Global, ask: &Ask) -> Vec<u8> {
-    let (status, place, at) = ask.told;
+pub(crate) fn wanted(rt: &impl Abort, alloc: Global, row: &str) -> Vec<u8> {
     let mut text = Vec::new(alloc);
-    put(rt, &mut text, b"HTTP/1.1 ");
-    put_line(rt, &mut text, status);
-    put(
-        rt,
-        &mut text,
-        b"x-ms-request-id: 00000000-0000-0000-0000-0000000000",
-    );
-    put_line(rt, &mut text, place);
-    put_line(rt, &mut text, "x-ms-version: 2020-10-02");
-    put(rt, &mut text, b"Date: Sat, 01 Jan 2022 ");
-    put(rt, &mut text, at.as_bytes());
-    put_line(rt, &mut text, " GMT");
-    put_lines(rt, &mut text, ask.heads);
+    put_front(rt, &mut text, starred(rt, row));
+    put_lines(rt, &mut text, row, "< ");
     put_line(rt, &mut text, "");
-    put(rt, &mut text, ask.says.as_bytes());
+    put_body(rt, alloc, &mut text, row, "= ");
     text
 }
 
@@ -160,47 +217,58 @@ pub(crate) fn served<R: Abort + Wait>(
     )
 }
 
-fn check(rt: &impl Abort, report: ConnReport, taken: u64) {
+pub(crate) fn check(rt: &impl Abort, report: ConnReport, taken: u64) {
     assert!(rt; report.end == ConnEnd::Ended);
     assert!(rt; report.taken == taken);
     assert!(rt; report.asked <= 1 && !report.starved);
 }
 
-/// Asks one request over a connection of its own.
-fn ask_one<R: Abort + Wait>(
+/// Asks the request of one row over a connection of its own.
+fn ask<R: Abort + Wait>(
     rt: &R,
     alloc: Global,
     office: &Office,
     pass: &mut Pass,
     outside: &mut Outside,
-    ask: &Ask,
+    row: &str,
 )
     requires own { pass.old.office ≡ office.now }
     ensures held { KeepsSessions pass.old pass.new }
     ensures same { IsSamePass pass.old pass.new }
 {
-    let bytes = request(rt, alloc, &outside.account, ask);
+    let bytes = request(rt, alloc, &outside.account, row);
     let taken = bytes.len() as u64;
     let mut link = link(alloc, bytes);
     let report = served(rt, alloc, office, pass, outside, &mut link);
-    same(rt, ask.asks, link.sink.bytes(), &wanted(rt, alloc, ask));
+    same(rt, row, link.sink.bytes(), &wanted(rt, alloc, row));
     check(rt, report, taken);
 }
 
-/// Asks the requests, one after another.
+/// Asks the requests of a table, one after another. An empty text is a table without rows.
 pub(crate) fn asks<R: Abort + Wait>(
     rt: &R,
     alloc: Global,
     office: &Office,
     pass: &mut Pass,
     outside: &mut Outside,
-    table: &[Ask],
+    table: &str,
 )
     requires own { pass.old.office ≡ office.now }
     ensures held { KeepsSessions pass.old pass.new }
     ensures same { IsSamePass pass.old pass.new }
 {
-    for row in table.iter() {
-        ask_one(rt, alloc, office, pass, outside, row);
+    for row in table.split("\n\n") {
+        if !row.is_empty() {
+            ask(rt, alloc, office, pass, outside, row);
+        }
     }
+}
+
+/// Asks the requests of a table of an office of its own, which has so many entries then. Its clock goes on by this
+/// step each time that it is asked.
+pub(crate) fn rows<R: Abort + Wait>(rt: &R, alloc: Global, step: u64, table: &str, entries: usize) {
+    let mut outside = new_year(rt, alloc, step);
+    let (office, mut pass) = begun(rt, alloc);
+    asks(rt, alloc, &office, &mut pass, &mut outside, table);
+    closes(rt, office, pass, entries);
 }

@@ -8,11 +8,15 @@ mod bytes_of_files;
 #[cfg(test)]
 mod directories;
 #[cfg(test)]
+mod faults;
+#[cfg(test)]
 mod files;
 #[cfg(test)]
 mod handles;
 #[cfg(test)]
 mod leases;
+#[cfg(test)]
+mod limits;
 #[cfg(test)]
 mod locks;
 #[cfg(test)]
@@ -29,3 +33,5 @@ mod shares;
 mod snapshots;
 #[cfg(test)]
 mod sparse;
+#[cfg(test)]
+mod upload;

@@ -52,12 +52,13 @@ fn closed<R: Abort + Wait>(rt: &R, office: Office, pass: Pass) -> Book
     }
 }
 
-/// Closes the office, whose history has so many entries.
+/// Closes the office, whose history has so many entries, and in which no session is live.
 pub(crate) fn closes<R: Abort + Wait>(rt: &R, office: Office, pass: Pass, entries: usize)
     requires { pass.office ≡ office }
 {
     let book = closed(rt, office, pass);
-    assert!(rt; book.entries().len() == entries);
+    assert_eq!(rt; book.entries().len(), entries);
+    assert_eq!(rt; book.live(), 0);
     let_go(book);
 }
 

@@ -1,292 +1,205 @@
 //! Opens, and the requests that meet them.
-ghost use Rattle.std.specs.Prelude.{◌≡◌};
-ghost use Rattle.sx_book.specs.Passes.{IsSamePass};
 
-use crate::asking::{Ask, asks};
-use crate::opening::{Outside, begun, closes, new_year};
-use crate::saying::{Said, ended, says, started, talks};
+use crate::asking::{SHARE, asks};
+use crate::opening::{begun, closes, new_year};
+use crate::saying::{before_requests, beside_a_session, ended, says, started};
 use std::alloc::Global;
 use std::process::Abort;
 use std::sync::Wait;
-use sx_book::{Office, Pass};
 
-/// The share.
-const SHARE: [Ask; 1] = [Ask {
-    asks: "PUT /data?restype=share",
-    with: &["Content-Length: 0"],
-    body: "",
-    told: ("201 Created", "01", "00:00:00"),
-    heads: &[
-        "Last-Modified: Sat, 01 Jan 2022 00:00:00 GMT\r\nETag: \"0x0000000000000001\"",
-        "Content-Length: 0",
-    ],
-    says: "",
-}];
+/// A file that is made, written, read and closed, and read behind its close.
+pub(crate) const READ_AGAIN: &str = "\
+open data a.txt rw rwd create file => OK 3 open 1 created 2 0
+write 1 0 68690a => OK 4 write 3 3
+read 1 0 16 => OK 5 read 3 68690a
+close 1 => OK 6 close kept
+read 1 0 16 => ERR INVALID_HANDLE 7 handle 1.1";
 
-const FIRST_OPEN: [Said; 1] = [Said {
-    says: "open data a.txt r w create file",
-    told: "OK 4 open 1 created 2 0",
-}];
+/// Opens by a name that is there, and by one that is absent.
+const BY_NAME: &str = "\
+open data a.txt rw rwd create file => OK 3 open 1 created 2 0
+open data a.txt r rwd create file => ERR OBJECT_NAME_COLLISION 4 there id 2
+open data b.txt r rwd existing file => ERR OBJECT_NAME_NOT_FOUND 5 no name
+open data b.txt r rwd either file => OK 6 open 2 created 3 0
+open data A.TXT r rwd either file => OK 7 open 3 opened 2 0";
 
-const SECOND_OPEN: [Said; 1] = [Said {
-    says: "open data a.txt w r existing file",
-    told: "OK 5 open 1 opened 2 0",
-}];
+const FIRST_OPEN: &str = "open data a.txt r w create file => OK 4 open 1 created 2 0";
 
-const CLASHING_OPEN: [Said; 1] = [Said {
-    says: "open data a.txt w w existing file",
-    told: "ERR SHARING_VIOLATION 5 sharing handle 1.1",
-}];
+const SECOND_OPEN: &str = "open data a.txt w r existing file => OK 5 open 1 opened 2 0";
 
-const OPENED: [Said; 1] = [Said {
-    says: "open data a.txt r w create file",
-    told: "OK 3 open 1 created 2 0",
-}];
+const CLASHING_OPEN: &str =
+    "open data a.txt w w existing file => ERR SHARING_VIOLATION 5 sharing handle 1.1";
+
+const OPENED: &str = "open data a.txt r w create file => OK 3 open 1 created 2 0";
 
 /// A request against an open that shares no reading.
-const SHARES_NO_READING: [Ask; 2] = [
-    Ask {
-        asks: "GET /data/a.txt",
-        with: &[],
-        body: "",
-        told: ("409 Conflict", "04", "00:00:00"),
-        heads: &[
-            "x-ms-error-code: SharingViolation\r\nContent-Type: application/xml\r\nContent-Length: 119",
-        ],
-        says: "<?xml version=\"1.0\" encoding=\"utf-8\"?><Error><Code>SharingViolation</Code><Message>s\
-             haring handle 1.1</Message></Error>",
-    },
-    Ask {
-        asks: "HEAD /data/a.txt",
-        with: &[],
-        body: "",
-        told: ("200 OK", "05", "00:00:00"),
-        heads: &[
-            "Last-Modified: Sat, 01 Jan 2022 00:00:00 GMT\r\nETag: \"0x0000000000000003\"",
-            "Content-Type: application/octet-stream\r\nx-ms-type: File\r\nx-ms-file-attributes: Archive",
-            "x-ms-file-creation-time: 2022-01-01T00:00:00.0000000Z",
-            "x-ms-file-last-write-time: 2022-01-01T00:00:00.0000000Z",
-            "x-ms-file-change-time: 2022-01-01T00:00:00.0000000Z\r\nx-ms-file-id: 2\r\nx-ms-file-parent-id: 1",
-            "x-ms-lease-status: unlocked\r\nx-ms-lease-state: available\r\nContent-Length: 0",
-        ],
-        says: "",
-    },
-];
+const SHARES_NO_READING: &str = r#"GET /data/a.txt
+* 04 00:00:00 409 Conflict
+< x-ms-error-code: SharingViolation
+< Content-Type: application/xml
+< Content-Length: 119
+= <?xml version="1.0" encoding="utf-8"?><Error><Code>SharingViolation</Code><Message>sharing handle 1.1</Message>
+= </Error>
 
-const NO_ACCESS: [Said; 1] = [Said {
-    says: "open data a.txt - - create file",
-    told: "OK 3 open 1 created 2 0",
-}];
+HEAD /data/a.txt
+* 05 00:00:00 200 OK
+< Last-Modified: Sat, 01 Jan 2022 00:00:00 GMT
+< ETag: "0x0000000000000003"
+< Content-Type: application/octet-stream
+< x-ms-type: File
+< x-ms-file-attributes: Archive
+< x-ms-file-creation-time: 2022-01-01T00:00:00.0000000Z
+< x-ms-file-last-write-time: 2022-01-01T00:00:00.0000000Z
+< x-ms-file-change-time: 2022-01-01T00:00:00.0000000Z
+< x-ms-file-id: 2
+< x-ms-file-parent-id: 1
+< x-ms-lease-status: unlocked
+< x-ms-lease-state: available
+< Content-Length: 0"#;
+
+const NO_ACCESS: &str = "open data a.txt - - create file => OK 3 open 1 created 2 0";
 
 /// Requests beside an open without access.
-const BESIDE_NO_ACCESS: [Ask; 2] = [
-    Ask {
-        asks: "GET /data/a.txt",
-        with: &[],
-        body: "",
-        told: ("200 OK", "04", "00:00:00"),
-        heads: &[
-            "Last-Modified: Sat, 01 Jan 2022 00:00:00 GMT\r\nETag: \"0x0000000000000003\"",
-            "Content-Type: application/octet-stream\r\nAccept-Ranges: bytes\r\nx-ms-type: File",
-            "x-ms-file-attributes: Archive\r\nx-ms-file-creation-time: 2022-01-01T00:00:00.0000000Z",
-            "x-ms-file-last-write-time: 2022-01-01T00:00:00.0000000Z",
-            "x-ms-file-change-time: 2022-01-01T00:00:00.0000000Z\r\nx-ms-file-id: 2\r\nx-ms-file-parent-id: 1",
-            "x-ms-lease-status: unlocked\r\nx-ms-lease-state: available\r\nContent-Length: 0",
-        ],
-        says: "",
-    },
-    Ask {
-        asks: "DELETE /data?restype=share",
-        with: &[],
-        body: "",
-        told: ("409 Conflict", "05", "00:00:00"),
-        heads: &[
-            "x-ms-error-code: SharingViolation\r\nContent-Type: application/xml\r\nContent-Length: 119",
-        ],
-        says: "<?xml version=\"1.0\" encoding=\"utf-8\"?><Error><Code>SharingViolation</Code><Message>s\
-             haring handle 1.1</Message></Error>",
-    },
-];
+const BESIDE_NO_ACCESS: &str = r#"GET /data/a.txt
+* 04 00:00:00 200 OK
+< Last-Modified: Sat, 01 Jan 2022 00:00:00 GMT
+< ETag: "0x0000000000000003"
+< Content-Type: application/octet-stream
+< Accept-Ranges: bytes
+< x-ms-type: File
+< x-ms-file-attributes: Archive
+< x-ms-file-creation-time: 2022-01-01T00:00:00.0000000Z
+< x-ms-file-last-write-time: 2022-01-01T00:00:00.0000000Z
+< x-ms-file-change-time: 2022-01-01T00:00:00.0000000Z
+< x-ms-file-id: 2
+< x-ms-file-parent-id: 1
+< x-ms-lease-status: unlocked
+< x-ms-lease-state: available
+< Content-Length: 0
 
-const DENIED: [Said; 2] = [
-    Said {
-        says: "read 1 0 1",
-        told: "ERR ACCESS_DENIED 6 access 1.1",
-    },
-    Said {
-        says: "close 1",
-        told: "OK 7 close kept",
-    },
-];
+DELETE /data?restype=share
+* 05 00:00:00 409 Conflict
+< x-ms-error-code: SharingViolation
+< Content-Type: application/xml
+< Content-Length: 119
+= <?xml version="1.0" encoding="utf-8"?><Error><Code>SharingViolation</Code><Message>sharing handle 1.1</Message>
+= </Error>"#;
+
+const DENIED: &str = "\
+read 1 0 1 => ERR ACCESS_DENIED 6 access 1.1
+close 1 => OK 7 close kept";
 
 /// The share is deleted behind the close.
-const DELETED: [Ask; 1] = [Ask {
-    asks: "DELETE /data?restype=share",
-    with: &[],
-    body: "",
-    told: ("202 Accepted", "08", "00:00:00"),
-    heads: &["Content-Length: 0"],
-    says: "",
-}];
+const DELETED: &str = r#"DELETE /data?restype=share
+* 08 00:00:00 202 Accepted
+< Content-Length: 0"#;
 
-const WRITTEN: [Said; 2] = [
-    Said {
-        says: "open data a.txt w rwd create file",
-        told: "OK 3 open 1 created 2 0",
-    },
-    Said {
-        says: "write 1 0 6869",
-        told: "OK 4 write 2 2",
-    },
-];
+const WRITTEN: &str = "\
+open data a.txt w rwd create file => OK 3 open 1 created 2 0
+write 1 0 6869 => OK 4 write 2 2";
 
 /// The file is read behind the session.
-const READ_BEHIND: [Ask; 1] = [Ask {
-    asks: "GET /data/a.txt",
-    with: &[],
-    body: "",
-    told: ("200 OK", "06", "00:00:00"),
-    heads: &[
-        "Last-Modified: Sat, 01 Jan 2022 00:00:00 GMT\r\nETag: \"0x0000000000000004\"",
-        "Content-Type: application/octet-stream\r\nAccept-Ranges: bytes\r\nx-ms-type: File",
-        "x-ms-file-attributes: Archive\r\nx-ms-file-creation-time: 2022-01-01T00:00:00.0000000Z",
-        "x-ms-file-last-write-time: 2022-01-01T00:00:00.0000000Z",
-        "x-ms-file-change-time: 2022-01-01T00:00:00.0000000Z\r\nx-ms-file-id: 2\r\nx-ms-file-parent-id: 1",
-        "x-ms-lease-status: unlocked\r\nx-ms-lease-state: available\r\nContent-Length: 2",
-    ],
-    says: "hi",
-}];
+const READ_BEHIND: &str = r#"GET /data/a.txt
+* 06 00:00:00 200 OK
+< Last-Modified: Sat, 01 Jan 2022 00:00:00 GMT
+< ETag: "0x0000000000000004"
+< Content-Type: application/octet-stream
+< Accept-Ranges: bytes
+< x-ms-type: File
+< x-ms-file-attributes: Archive
+< x-ms-file-creation-time: 2022-01-01T00:00:00.0000000Z
+< x-ms-file-last-write-time: 2022-01-01T00:00:00.0000000Z
+< x-ms-file-change-time: 2022-01-01T00:00:00.0000000Z
+< x-ms-file-id: 2
+< x-ms-file-parent-id: 1
+< x-ms-lease-status: unlocked
+< x-ms-lease-state: available
+< Content-Length: 2
+= hi"#;
 
-/// Two sessions are started, each says its lines, and both end.
+/// Two sessions are started beside a share, each says its lines, and both end. The office has so many entries then.
 fn both_say<R: Abort + Wait>(
     rt: &R,
     alloc: Global,
-    office: &Office,
-    pass: &mut Pass,
-    outside: &mut Outside,
-    first_says: &[Said],
-    second_says: &[Said],
-)
-    requires own { pass.old.office ≡ office.now }
-    ensures same { IsSamePass pass.old pass.new }
-{
-    let first = started(rt, office, pass, outside);
-    let second = started(rt, office, pass, outside);
-    says(rt, alloc, office, pass, outside, &first, first_says);
-    says(rt, alloc, office, pass, outside, &second, second_says);
-    ended(rt, office, pass, outside, second);
-    ended(rt, office, pass, outside, first);
+    first_says: &str,
+    second_says: &str,
+    entries: usize,
+) {
+    let mut outside = new_year(rt, alloc, 0);
+    let (office, mut pass) = begun(rt, alloc);
+    asks(rt, alloc, &office, &mut pass, &mut outside, SHARE);
+    let first = started(rt, &office, &mut pass, &mut outside);
+    let second = started(rt, &office, &mut pass, &mut outside);
+    says(
+        rt,
+        alloc,
+        &office,
+        &mut pass,
+        &mut outside,
+        &first,
+        first_says,
+    );
+    says(
+        rt,
+        alloc,
+        &office,
+        &mut pass,
+        &mut outside,
+        &second,
+        second_says,
+    );
+    ended(rt, &office, &mut pass, &mut outside, second);
+    ended(rt, &office, &mut pass, &mut outside, first);
+    closes(rt, office, pass, entries);
+}
+
+#[test]
+fn a_file_that_is_read_behind_its_close(rt: HostRuntime) {
+    before_requests(&rt, rt.alloc(), READ_AGAIN, "", 8);
+}
+
+#[test]
+fn opens_by_name(rt: HostRuntime) {
+    before_requests(&rt, rt.alloc(), BY_NAME, "", 8);
 }
 
 #[test]
 fn two_opens_that_share(rt: HostRuntime) {
-    let alloc = rt.alloc();
-    let mut outside = new_year(&rt, alloc, 0);
-    let (office, mut pass) = begun(&rt, alloc);
-    asks(&rt, alloc, &office, &mut pass, &mut outside, &SHARE);
-    both_say(
-        &rt,
-        alloc,
-        &office,
-        &mut pass,
-        &mut outside,
-        &FIRST_OPEN,
-        &SECOND_OPEN,
-    );
-    closes(&rt, office, pass, 7);
+    both_say(&rt, rt.alloc(), FIRST_OPEN, SECOND_OPEN, 7);
 }
 
 #[test]
 fn two_opens_that_clash(rt: HostRuntime) {
-    let alloc = rt.alloc();
-    let mut outside = new_year(&rt, alloc, 0);
-    let (office, mut pass) = begun(&rt, alloc);
-    asks(&rt, alloc, &office, &mut pass, &mut outside, &SHARE);
-    both_say(
-        &rt,
-        alloc,
-        &office,
-        &mut pass,
-        &mut outside,
-        &FIRST_OPEN,
-        &CLASHING_OPEN,
-    );
-    closes(&rt, office, pass, 7);
+    both_say(&rt, rt.alloc(), FIRST_OPEN, CLASHING_OPEN, 7);
 }
 
 #[test]
 fn an_open_that_shares_no_reading(rt: HostRuntime) {
-    let alloc = rt.alloc();
-    let mut outside = new_year(&rt, alloc, 0);
-    let (office, mut pass) = begun(&rt, alloc);
-    asks(&rt, alloc, &office, &mut pass, &mut outside, &SHARE);
-    let session = started(&rt, &office, &mut pass, &mut outside);
-    says(
+    beside_a_session(
         &rt,
-        alloc,
-        &office,
-        &mut pass,
-        &mut outside,
-        &session,
-        &OPENED,
+        rt.alloc(),
+        0,
+        SHARE,
+        (OPENED, SHARES_NO_READING),
+        ("", ""),
+        6,
     );
-    asks(
-        &rt,
-        alloc,
-        &office,
-        &mut pass,
-        &mut outside,
-        &SHARES_NO_READING,
-    );
-    ended(&rt, &office, &mut pass, &mut outside, session);
-    closes(&rt, office, pass, 6);
 }
 
 #[test]
 fn an_open_without_access(rt: HostRuntime) {
-    let alloc = rt.alloc();
-    let mut outside = new_year(&rt, alloc, 0);
-    let (office, mut pass) = begun(&rt, alloc);
-    asks(&rt, alloc, &office, &mut pass, &mut outside, &SHARE);
-    let session = started(&rt, &office, &mut pass, &mut outside);
-    says(
+    beside_a_session(
         &rt,
-        alloc,
-        &office,
-        &mut pass,
-        &mut outside,
-        &session,
-        &NO_ACCESS,
+        rt.alloc(),
+        0,
+        SHARE,
+        (NO_ACCESS, BESIDE_NO_ACCESS),
+        (DENIED, DELETED),
+        9,
     );
-    asks(
-        &rt,
-        alloc,
-        &office,
-        &mut pass,
-        &mut outside,
-        &BESIDE_NO_ACCESS,
-    );
-    says(
-        &rt,
-        alloc,
-        &office,
-        &mut pass,
-        &mut outside,
-        &session,
-        &DENIED,
-    );
-    asks(&rt, alloc, &office, &mut pass, &mut outside, &DELETED);
-    ended(&rt, &office, &mut pass, &mut outside, session);
-    closes(&rt, office, pass, 9);
 }
 
 #[test]
 fn a_session_and_then_a_request(rt: HostRuntime) {
-    let alloc = rt.alloc();
-    let mut outside = new_year(&rt, alloc, 0);
-    let (office, mut pass) = begun(&rt, alloc);
-    asks(&rt, alloc, &office, &mut pass, &mut outside, &SHARE);
-    talks(&rt, alloc, &office, &mut pass, &mut outside, &WRITTEN);
-    asks(&rt, alloc, &office, &mut pass, &mut outside, &READ_BEHIND);
-    closes(&rt, office, pass, 6);
+    before_requests(&rt, rt.alloc(), WRITTEN, READ_BEHIND, 6);
 }

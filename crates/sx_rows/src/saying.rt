@@ -1,12 +1,14 @@
 //! Lines of sessions: asked of an office one by one, or said to the session's door, and their answers.
+//!
+//! A table is one text, of which each line is a session's line, ` => ` and its answer, both without their line feeds.
 ghost use Rattle.std.specs.Prelude.{◌≡◌, ◌≢◌, ℕ};
 ghost use Rattle.sx_book.specs.Passes.{HoldsSession, IsSamePass, KeepsOtherSessions, KeepsSessions};
 ghost use Rattle.sx_call.specs.Calls.{door_of};
 ghost use Rattle.sx_call.specs.declared.doors.Door.TheVariants.{InSession};
 ghost use Rattle.sx_lines.specs.Answers.{has_line};
 
-use crate::asking::{link, put, same};
-use crate::opening::{Outside, let_go};
+use crate::asking::{SHARE, asks, link, put, same};
+use crate::opening::{Outside, begun, closes, let_go, new_year};
 use std::alloc::Global;
 use std::process::Abort;
 use std::sync::Wait;
@@ -16,15 +18,6 @@ use sx_call::{Call, Door, Reply};
 use sx_lines::{Line, LineAnswer, call_of_line, print_line};
 use sx_reply::word_of;
 use sx_smb_door::serve_session;
-
-/// A line and its answer, both without their line feeds.
-#[derive(Clone, Copy)]
-pub(crate) struct Said {
-    /// The line.
-    pub says: &'static str,
-    /// Its answer.
-    pub told: &'static str,
-}
 
 /// Starts a session of the peer 127.0.0.1.
 pub(crate) fn started<R: Abort + Wait>(
@@ -86,35 +79,45 @@ fn printed(rt: &impl Abort, alloc: Global, receipt: Receipt, locking: bool) -> M
     }
 }
 
-/// The answers of the first lines of a table, so many of them.
-pub(crate) fn told(rt: &impl Abort, alloc: Global, table: &[Said], count: usize) -> Vec<u8> {
+/// The line of a row, and its answer.
+fn parted<'a>(rt: &impl Abort, row: &'a str) -> (&'a str, &'a str) {
+    match row.split_once(" => ") {
+        Some(parts) => parts,
+        None => panic!(rt; "{row} is no row"),
+    }
+}
+
+fn put_line(rt: &impl Abort, text: &mut Vec<u8>, line: &str) {
+    put(rt, text, line.as_bytes());
+    put(rt, text, b"\n");
+}
+
+/// The answers of the first rows of a table, so many of them.
+pub(crate) fn told(rt: &impl Abort, alloc: Global, table: &str, count: usize) -> Vec<u8> {
     let mut text = Vec::new(alloc);
-    for line in table.iter().take(count) {
-        put(rt, &mut text, line.told.as_bytes());
-        put(rt, &mut text, b"\n");
+    for row in table.lines().take(count) {
+        put_line(rt, &mut text, parted(rt, row).1);
     }
     text
 }
 
 /// The lines of a table.
-pub(crate) fn lines(rt: &impl Abort, alloc: Global, table: &[Said]) -> Vec<u8> {
+pub(crate) fn lines(rt: &impl Abort, alloc: Global, table: &str) -> Vec<u8> {
     let mut text = Vec::new(alloc);
-    for line in table.iter() {
-        put(rt, &mut text, line.says.as_bytes());
-        put(rt, &mut text, b"\n");
+    for row in table.lines() {
+        put_line(rt, &mut text, parted(rt, row).0);
     }
     text
 }
 
-fn check(rt: &impl Abort, alloc: Global, line: &Said, receipt: Receipt, locking: bool) {
+fn check(rt: &impl Abort, alloc: Global, row: &str, receipt: Receipt, locking: bool) {
     let sink = printed(rt, alloc, receipt, locking);
     let mut wanted = Vec::new(alloc);
-    put(rt, &mut wanted, line.told.as_bytes());
-    put(rt, &mut wanted, b"\n");
-    same(rt, line.says, sink.bytes(), &wanted);
+    put_line(rt, &mut wanted, parted(rt, row).1);
+    same(rt, row, sink.bytes(), &wanted);
 }
 
-/// Asks the call of one line.
+/// Asks the call of one row.
 fn say<R: Abort + Wait>(
     rt: &R,
     alloc: Global,
@@ -122,18 +125,18 @@ fn say<R: Abort + Wait>(
     pass: &mut Pass,
     outside: &mut Outside,
     session: &Session,
-    line: &Said,
+    row: &str,
 )
     requires own { pass.old.office ≡ office.now }
     requires mine { HoldsSession pass.old session.now }
     ensures held { KeepsSessions pass.old pass.new }
     ensures same { IsSamePass pass.old pass.new }
 {
-    let call = call_of(rt, alloc, line.says);
+    let call = call_of(rt, alloc, parted(rt, row).0);
     let locking = matches!(&call, Call::SmbLock(_));
     let now = outside.clock.now();
     match office.ask(rt, pass, now, 0, Some(session), call) {
-        Ok(receipt) => check(rt, alloc, line, receipt, locking),
+        Ok(receipt) => check(rt, alloc, row, receipt, locking),
         Err(_) => panic!(rt; "no place"),
     }
 }
@@ -146,15 +149,15 @@ pub(crate) fn says<R: Abort + Wait>(
     pass: &mut Pass,
     outside: &mut Outside,
     session: &Session,
-    table: &[Said],
+    table: &str,
 )
     requires own { pass.old.office ≡ office.now }
     requires mine { HoldsSession pass.old session.now }
     ensures held { KeepsSessions pass.old pass.new }
     ensures same { IsSamePass pass.old pass.new }
 {
-    for line in table.iter() {
-        say(rt, alloc, office, pass, outside, session, line);
+    for row in table.lines() {
+        say(rt, alloc, office, pass, outside, session, row);
     }
 }
 
@@ -189,7 +192,7 @@ pub(crate) fn talks<R: Abort + Wait>(
     office: &Office,
     pass: &mut Pass,
     outside: &mut Outside,
-    table: &[Said],
+    table: &str,
 )
     requires own { pass.old.office ≡ office.now }
     ensures held { KeepsSessions pass.old pass.new }
@@ -197,7 +200,7 @@ pub(crate) fn talks<R: Abort + Wait>(
 {
     let mut link = link(alloc, lines(rt, alloc, table));
     let report = served(rt, alloc, office, pass, outside, &mut link);
-    let wanted = told(rt, alloc, table, table.len());
+    let wanted = told(rt, alloc, table, usize::MAX);
     same(rt, "the session", link.sink.bytes(), &wanted);
     assert!(rt; report.end == ConnEnd::Ended);
 }
@@ -217,4 +220,60 @@ pub(crate) fn ended<R: Abort + Wait>(
 {
     let now = outside.clock.now();
     let_go(office.end_session(rt, pass, now, session));
+}
+
+/// Asks the requests of a table of an office of its own, and then, by turns and twice, the lines of a table in a
+/// session and the requests of a table beside it. The session is ended, and the office has so many entries then.
+pub(crate) fn beside_a_session<R: Abort + Wait>(
+    rt: &R,
+    alloc: Global,
+    step: u64,
+    made: &str,
+    first: (&str, &str),
+    second: (&str, &str),
+    entries: usize,
+) {
+    let mut outside = new_year(rt, alloc, step);
+    let (office, mut pass) = begun(rt, alloc);
+    asks(rt, alloc, &office, &mut pass, &mut outside, made);
+    let session = started(rt, &office, &mut pass, &mut outside);
+    says(
+        rt,
+        alloc,
+        &office,
+        &mut pass,
+        &mut outside,
+        &session,
+        first.0,
+    );
+    asks(rt, alloc, &office, &mut pass, &mut outside, first.1);
+    says(
+        rt,
+        alloc,
+        &office,
+        &mut pass,
+        &mut outside,
+        &session,
+        second.0,
+    );
+    asks(rt, alloc, &office, &mut pass, &mut outside, second.1);
+    ended(rt, &office, &mut pass, &mut outside, session);
+    closes(rt, office, pass, entries);
+}
+
+/// Asks that the share is made of an office of its own, says the lines of a table to the session's door, and asks the
+/// requests of a table behind it. The office has so many entries then.
+pub(crate) fn before_requests<R: Abort + Wait>(
+    rt: &R,
+    alloc: Global,
+    table: &str,
+    behind: &str,
+    entries: usize,
+) {
+    let mut outside = new_year(rt, alloc, 0);
+    let (office, mut pass) = begun(rt, alloc);
+    asks(rt, alloc, &office, &mut pass, &mut outside, SHARE);
+    talks(rt, alloc, &office, &mut pass, &mut outside, table);
+    asks(rt, alloc, &office, &mut pass, &mut outside, behind);
+    closes(rt, office, pass, entries);
 }
