@@ -3,6 +3,7 @@ pub mod Digits
 pub mod Each
 pub mod Lent
 pub mod MetaNames
+pub mod MetaValues
 pub mod MomentTexts
 pub mod NewAttributes
 pub mod RowsApart

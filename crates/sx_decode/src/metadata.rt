@@ -1,19 +1,21 @@
 //! Metadata in headers.
 
-ghost use Rattle.std.specs.Prelude.{◌≡◌, ◌++◌, ◌∷◌, [], map, drop, IfOk, OnOk};
-ghost use Rattle.std.specs.List.{filter, flat_map};
-ghost use Rattle.sx_http.specs.Lookup.{header_values};
+ghost use Rattle.std.specs.Prelude.{◌≡◌, ◌++◌, ◌∷◌, [], map, drop, IfOk, OnOk, None};
+ghost use Rattle.std.specs.List.{filter};
+ghost use Rattle.std.specs.BTreeMap.{get_by};
+ghost use Rattle.std.specs.Ordering.{nat_cmp};
+ghost use Rattle.std.specs.Cmp.Lexicographic.{slice_cmp};
 ghost use Rattle.sx_decode.specs.Reading.{Reads, ReadsBy};
-ghost use Rattle.sx_decode.specs.Metadata.{is_meta_header, put_in_order, meta_header_names, joined, meta_pair};
-ghost use Rattle.sx_decode.specs.Metadata.{with_pair, pair_read, value_read, with_name, pairs_of, meta_of};
+ghost use Rattle.sx_decode.specs.Metadata.{is_meta_header, header_names, named_values, put_value, lent_values};
+ghost use Rattle.sx_decode.specs.Metadata.{with_pair, pair_read, value_read, with_value, pairs_of, meta_of};
 
 use crate::refusals::refuse_header;
 use crate::unread::Unread;
 use std::alloc::{AllocError, Global};
-use std::collections::BTreeSet;
+use std::collections::BTreeMap;
 use sx_base::Items;
 use sx_call::{Meta, MetaPair, NoMemory};
-use sx_http::{Header, header_values};
+use sx_http::Header;
 use sx_names::{HeaderText, MetaName};
 
 fn is_meta_header(header: &Header) -> bool
@@ -22,76 +24,65 @@ fn is_meta_header(header: &Header) -> bool
     header.name.bytes().starts_with(b"x-ms-meta-")
 }
 
-/// The names of the headers of metadata, as they come.
-fn received_names<'a>(alloc: Global, headers: &'a [Header]) -> Result<Vec<&'a str>, AllocError>
-    ensures { IfOk result (λ v. map (λ n. n.now) v.items ≡ map (λ h. h.name) (filter is_meta_header headers.now)) }
+/// The headers of metadata, as they come.
+fn meta_headers<'a>(alloc: Global, headers: &'a [Header]) -> Result<Vec<&'a Header>, AllocError>
+    ensures { IfOk result (λ v. map (λ h. h.now) v.items ≡ filter is_meta_header headers.now) }
 {
-    headers
-        .iter()
-        .filter(|h| is_meta_header(h))
-        .map(|h| h.name.as_str())
-        .collect(alloc)
+    headers.iter().filter(|h| is_meta_header(h)).collect(alloc)
 }
 
-/// Names, each once.
-fn name_set<'a>(alloc: Global, received: &[&'a str]) -> Result<BTreeSet<&'a str>, NoMemory>
-    ensures { IfOk result (λ names. map (λ n. n.now) names.keys ≡ put_in_order [] (map (λ n. n.now) received.now)) }
+/// Adds a value behind a comma.
+fn add_value(values: &mut Items<u8>, value: &[u8]) -> Result<(), NoMemory>
+    ensures { OnOk result (values.new ≡ values.old ++ 44 ∷ value.now) }
 {
-    let mut names = BTreeSet::new(alloc);
-    for name in received {
-        names.insert(*name)?;
-    }
-    Ok(names)
-}
-
-/// The names of a set in the order of their bytes.
-fn in_order<'a>(alloc: Global, names: BTreeSet<&'a str>) -> Result<Vec<&'a str>, AllocError>
-    ensures { IfOk result (λ v. v.items ≡ names.entry.keys) }
-{
-    names.into_iter().collect(alloc)
-}
-
-/// The names of the headers of metadata, each once and in order.
-fn meta_header_names<'a>(alloc: Global, headers: &'a [Header]) -> Result<Vec<&'a str>, NoMemory>
-    ensures { IfOk result (λ names. map (λ n. n.now) names.items ≡ meta_header_names headers.now) }
-{
-    let received = received_names(alloc, headers)?;
-    let names = name_set(alloc, &received)?;
-    let names = in_order(alloc, names)?;
-    Ok(names)
-}
-
-/// Texts in a row, with a comma between each two.
-fn joined(alloc: Global, texts: &[&[u8]]) -> Result<Items<u8>, NoMemory>
-    ensures { IfOk result (λ t. t ≡ joined (map (λ t. t.now) texts.now)) }
-{
-    match texts {
-        [] => Ok(Items::new(alloc)),
-        [first, rest @ ..] => {
-            let mut joined = Items::copy_of(alloc, first)?;
-            put_behind(&mut joined, rest)?;
-            Ok(joined)
-        }
-    }
-}
-
-/// Adds texts in a row, with a comma before each.
-fn put_behind(joined: &mut Items<u8>, texts: &[&[u8]]) -> Result<(), NoMemory>
-    ensures { OnOk result (joined.new ≡ joined.old ++ flat_map (λ t. 44 ∷ t) (map (λ t. t.now) texts.now)) }
-{
-    for text in texts {
-        joined.append(b",")?;
-        joined.append(text)?;
-    }
+    values.append(b",")?;
+    values.append(value)?;
     Ok(())
 }
 
-/// The joined values of the headers of a name.
-fn joined_values(alloc: Global, headers: &[Header], name: &str) -> Result<Items<u8>, NoMemory>
-    ensures { IfOk result (λ t. t ≡ joined (header_values name.now headers.now)) }
+/// Puts the value of a header whose name has none.
+fn put_first<'a>(
+    alloc: Global,
+    values: &mut BTreeMap<&'a str, Items<u8>>,
+    header: &'a Header,
+) -> Result<(), NoMemory>
+    requires { get_by (λ n. slice_cmp nat_cmp header.now.name n.now) values.old ≡ None }
+    ensures { OnOk result (lent_values values.new.entries
+        ≡ put_value (lent_values values.old.entries) header.now.name header.now.value) }
 {
-    let values = header_values(alloc, headers, name.as_bytes())?;
-    joined(alloc, &values)
+    let value = Items::copy_of(alloc, header.value.as_slice())?;
+    values.insert(header.name.as_str(), value)?;
+    Ok(())
+}
+
+/// Puts the value of a header to those of its name.
+fn put_value<'a>(
+    alloc: Global,
+    values: &mut BTreeMap<&'a str, Items<u8>>,
+    header: &'a Header,
+) -> Result<(), NoMemory>
+    ensures { OnOk result (lent_values values.new.entries
+        ≡ put_value (lent_values values.old.entries) header.now.name header.now.value) }
+{
+    match values.get_mut(header.name.as_str()) {
+        Some(value) => add_value(value, header.value.as_slice()),
+        None => put_first(alloc, values, header),
+    }
+}
+
+/// The values of headers by their names, which come in order.
+fn values_by_name<'a>(
+    alloc: Global,
+    headers: &[&'a Header],
+) -> Result<BTreeMap<&'a str, Items<u8>>, NoMemory>
+    ensures { IfOk result (λ values. lent_values values.entries
+        ≡ named_values (map (λ h. h.now) headers.now) (header_names (map (λ h. h.now) headers.now))) }
+{
+    let mut values = BTreeMap::new(alloc);
+    for header in headers {
+        put_value(alloc, &mut values, *header)?;
+    }
+    Ok(values)
 }
 
 /// A header's name without `x-ms-meta-`.
@@ -105,26 +96,25 @@ fn behind_prefix(name: &[u8]) -> &[u8]
     &name[10..]
 }
 
-/// What the headers of a name say.
-fn pair_read(alloc: Global, headers: &[Header], name: &str) -> Result<MetaPair, Unread>
-    ensures { Reads result (pair_read name.now (meta_pair headers.now name.now)) }
+/// What the headers of a name say, whose values joined are this one.
+fn pair_read(alloc: Global, name: &str, value: Items<u8>) -> Result<MetaPair, Unread>
+    ensures { Reads result (pair_read name.now value) }
 {
     let key = Items::copy_of(alloc, behind_prefix(name.as_bytes()))?;
     match MetaName::of(key) {
         None => refuse_header(alloc, name),
-        Some(key) => value_read(alloc, key, headers, name),
+        Some(key) => value_read(alloc, name, key, value),
     }
 }
 
 fn value_read(
     alloc: Global,
-    key: MetaName,
-    headers: &[Header],
     name: &str,
+    key: MetaName,
+    value: Items<u8>,
 ) -> Result<MetaPair, Unread>
-    ensures { Reads result (value_read name.now key (joined (header_values name.now headers.now))) }
+    ensures { Reads result (value_read name.now key value) }
 {
-    let value = joined_values(alloc, headers, name)?;
     match HeaderText::of(value) {
         None => refuse_header(alloc, name),
         Some(value) => Ok(MetaPair { name: key, value }),
@@ -142,12 +132,23 @@ fn put_pair(alloc: Global, meta: &mut Meta, name: &str, pair: MetaPair) -> Resul
     Ok(())
 }
 
-/// Adds what the headers of a name say.
-fn put_name(alloc: Global, meta: &mut Meta, headers: &[Header], name: &str) -> Result<(), Unread>
-    ensures { ReadsBy (λ _. meta.new) result (with_name headers.now meta.old name.now) }
+/// Adds what the headers of a name say, whose values joined are this one.
+fn put_name(alloc: Global, meta: &mut Meta, name: &str, value: Items<u8>) -> Result<(), Unread>
+    ensures { ReadsBy (λ _. meta.new) result (with_value meta.old name.now value) }
 {
-    let pair = pair_read(alloc, headers, name)?;
+    let pair = pair_read(alloc, name, value)?;
     put_pair(alloc, meta, name, pair)
+}
+
+/// The pairs of names with their values.
+fn pairs_of(alloc: Global, values: BTreeMap<&str, Items<u8>>) -> Result<Meta, Unread>
+    ensures { Reads result (pairs_of [] (lent_values values.entry.entries)) }
+{
+    let mut meta = Meta::new(alloc);
+    for (name, value) in values {
+        put_name(alloc, &mut meta, name, value)?;
+    }
+    Ok(meta)
 }
 
 /// The metadata that headers give, in order of name.
@@ -155,16 +156,7 @@ fn put_name(alloc: Global, meta: &mut Meta, headers: &[Header], name: &str) -> R
 pub fn meta_of(alloc: Global, headers: &[Header]) -> Result<Meta, Unread>
     ensures { Reads result (meta_of headers.now) }
 {
-    let names = meta_header_names(alloc, headers)?;
-    pairs_of(alloc, headers, &names)
-}
-
-fn pairs_of(alloc: Global, headers: &[Header], names: &[&str]) -> Result<Meta, Unread>
-    ensures { Reads result (pairs_of headers.now [] (map (λ n. n.now) names.now)) }
-{
-    let mut meta = Meta::new(alloc);
-    for name in names {
-        put_name(alloc, &mut meta, headers, name)?;
-    }
-    Ok(meta)
+    let own = meta_headers(alloc, headers)?;
+    let values = values_by_name(alloc, &own)?;
+    pairs_of(alloc, values)
 }

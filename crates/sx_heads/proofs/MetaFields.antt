@@ -22,7 +22,7 @@ use Rattle.sx_names.specs.Meta.{is_meta, is_meta_pair, follows, in_order, meta_l
 use Rattle.sx_names.specs.MetaPair.{is_meta_name}
 use Rattle.sx_names.specs.declared.meta.TheConstants.{MAX_META_NAMES, MAX_META_BYTES}
 use Rattle.sx_names.specs.declared.meta_pair.MetaPair.{MetaPair}
-use Rattle.sx_decode.specs.Metadata.{is_meta_header, put_in_order, meta_header_names, with_name, pairs_of, meta_of}
+use Rattle.sx_decode.specs.Metadata.{is_meta_header, put_in_order, meta_header_names, joined, named_values, with_value, pairs_of, meta_of}
 use Rattle.sx_heads.specs.Fields.{Field, one, metas, header_if, meta_header, with_fields}
 use Rattle.sx_heads.proofs.Lookups.{values-append}
 
@@ -234,13 +234,13 @@ pair_in done p ps e =
 -- ---- reading
 
 pair_back : (hs : List Header) (done : List MetaPair) (p : MetaPair) → header_values (full p.name) hs ≡ p.value ∷ [] → is_meta_pair p ≡ true → is_meta (done ++ p ∷ []) ≡ true
-    → with_name hs done (full p.name) ≡ Ok (done ++ p ∷ [])
+    → with_value done (full p.name) (joined (header_values (full p.name) hs)) ≡ Ok (done ++ p ∷ [])
 pair_back hs done p v e m =
     let both = and_parts (is_meta_name p.name) (is_header_text p.value) e in
     rw (v, append-nil p.value, both.0, both.1, m) refl
 
 pairs_back : (hs : List Header) (done rest : List MetaPair) → filter is_meta_header hs ≡ map meta_header (done ++ rest) → is_meta (done ++ rest) ≡ true
-    → AreBehind done rest → AreSorted rest → pairs_of hs done (map full_name rest) ≡ Ok (done ++ rest)
+    → AreBehind done rest → AreSorted rest → pairs_of done (named_values hs (map full_name rest)) ≡ Ok (done ++ rest)
 unfolding full_name
 pairs_back hs done [] f m h k = ap (λ (xs : List MetaPair). Ok xs) (sym (append-nil done))
 pairs_back hs done (p ∷ ps) f m h k =

@@ -1,6 +1,7 @@
-use Rattle.std.proofs.Common.{◌≡◌, [], map, drop}
-use Rattle.sx_decode.specs.Metadata.{pairs_of}
+use Rattle.std.proofs.Common.{◌≡◌, []}
+use Rattle.sx_decode.specs.Metadata.{lent_values, pairs_of}
 use Rattle.sx_decode.proofs.metadata.pairs_of.Given as goal
 
+-- the pairs of all, and of those that are left behind the pairs that were read
 abbrev pub invariant-loop-name : goal.invariant-loop-name
-invariant-loop-name l = pairs_of l.headers [] (map (λ n. n.now) l.names) ≡ pairs_of l.headers l.meta (map (λ n. n.now) (drop l.name-index l.names))
+invariant-loop-name l = pairs_of [] (lent_values l.fn.values.entries) ≡ pairs_of l.meta (lent_values l.name-iterator)
