@@ -2,7 +2,7 @@
 use Rattle.std.proofs.Common.{◌≡◌, ℕ, List, Some, None, Result, Ok, Err, sym, ap, ◌∙◌}
 use Rattle.sx_answer_reader.specs.declared.answer.Answer.{Answer}
 use Rattle.sx_answer_reader.specs.declared.answer.Unread.{Unread}
-use Rattle.sx_answer_reader.specs.declared.answer.Unread.TheVariants.{NoAnswer}
+use Rattle.sx_answer_reader.specs.declared.answer.Unread.TheVariants.{NoAnswer, NoMemory}
 use Rattle.sx_answer_reader.specs.Reading.{Reads, IsRead}
 use Rattle.sx_answer_reader.specs.Grammar.{answer_of}
 use Rattle.sx_answer_reader.proofs.WrittenFields.{some_is}
@@ -19,3 +19,4 @@ read_is (Ok a) line e =
     }
 read_is (Err NoAnswer) line e = λ other fits told.
     let is : None ≡ Some other = sym e ∙ ap answer_of (sym told) ∙ answer_back other fits in cc
+read_is (Err NoMemory) line e = tt

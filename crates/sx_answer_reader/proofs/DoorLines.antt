@@ -1,6 +1,8 @@
 -- The line that a session's door prints for an answer is the line of what it tells.
 use Rattle.std.proofs.Common.{codes, ◌≡◌, ℕ, Bool, true, false, List, [], ◌∷◌, ◌++◌, Option, Some, None, option_map, IfSome}
-use Rattle.std.proofs.Common.{refl, sym, ap, ◌∙◌, append_assoc, append-nil, ◌-◌}
+use Rattle.std.proofs.Common.{refl, sym, ap, ◌∙◌, arith, append_assoc, append-nil, ◌-◌, length}
+use Rattle.std.proofs.lemmas.Bool.{ne_eqb}
+use Rattle.std.proofs.lemmas.Fmt.{decimal_digit}
 use Rattle.std.specs.List.{concat}
 use Rattle.std.specs.List.{join_with_byte}
 use Rattle.std.specs.Fmt.{decimal}
@@ -20,8 +22,10 @@ use Rattle.sx_call.specs.declared.refusals.Refusal.TheVariants.{ShareThere, Snap
 use Rattle.sx_answer_reader.specs.declared.reason.Reason.{Reason}
 use Rattle.sx_guard.specs.Handle.{Handle}
 use Rattle.sx_reply.specs.Refusals.{row_of, message_of}
-use Rattle.sx_lines.specs.Answers.{answer_line, reply_line, smb_line, stop_line, refusal_word, refusal_line}
+use Rattle.hex.specs.Hex.{encode_lower}
+use Rattle.sx_lines.specs.Answers.{answer_line, reply_line, smb_line, bytes_line, stop_line, refusal_word, refusal_line}
 use Rattle.sx_answer_reader.specs.declared.answer.Answer.TheVariants.{Done, Refused, Stop}
+use Rattle.sx_answer_reader.specs.declared.answer.Told.TheVariants.{Read}
 use Rattle.sx_answer_reader.specs.Refusals.{reason_word, handle_text, message_words}
 use Rattle.sx_answer_reader.specs.Answers.{told_words, words_of, told_line}
 use Rattle.sx_answer_reader.specs.Doors.{told_of, reason_of, reply_told, answer_told, IsLineOf}
@@ -47,6 +51,28 @@ ok_line place ws = sym (line_then (codes "OK") (decimal place ∷ ws) (codes "\n
 err_line : (ws : List (List ℕ)) → codes "ERR" ++ behind_then ws (codes "\n") ≡ join_with_byte 32 (codes "ERR" ∷ ws) ++ codes "\n"
 err_line ws = sym (line_then (codes "ERR") ws (codes "\n"))
 
+-- the line feed
+abbrev feed : List ℕ
+feed = codes "\n"
+
+read_then : (p n x : List ℕ) → (concat (codes "OK " ∷ p ∷ codes " read " ∷ n ∷ codes " " ∷ []) ++ x) ++ concat (codes "\n" ∷ [])
+    ≡ codes "OK" ++ behind_then (p ∷ codes "read" ∷ n ∷ x ∷ []) feed
+read_then p n x =
+    ap (λ (y : List ℕ). codes "OK " ++ y) (
+    append_assoc (p ++ (codes " read " ++ (n ++ (32 ∷ [])))) x feed
+    ∙ append_assoc p (codes " read " ++ (n ++ (32 ∷ []))) (x ++ feed)
+    ∙ ap (λ (y : List ℕ). p ++ (codes " read " ++ y)) (append_assoc n (32 ∷ []) (x ++ feed)))
+
+bytes_are : (place : ℕ) (bytes : List ℕ) → bytes_line place bytes ≡ told_line (Done place (Read bytes)) ++ feed
+unfolding bytes_line told_line words_of told_words
+bytes_are place [] =
+    ap (λ (x : List ℕ). codes "OK " ++ (decimal place ++ (codes " read " ++ (x ++ codes " -\n")))) (sym (decimal_digit 0 (omega arith)))
+    ∙ ok_line place (codes "read" ∷ decimal 0 ∷ codes "-" ∷ [])
+bytes_are place (b ∷ bytes) =
+    rw (ne_eqb (length (b ∷ bytes)) 0 (λ q. omega (arith, q))) (
+    read_then (decimal place) (decimal (length (b ∷ bytes))) (encode_lower (b ∷ bytes))
+    ∙ ok_line place (codes "read" ∷ decimal (length (b ∷ bytes)) ∷ encode_lower (b ∷ bytes) ∷ []))
+
 smb_is : (place : ℕ) (reply : SmbReply) → IfSome (option_map (Done place) (told_of reply)) (λ told. smb_line place reply ≡ told_line told ++ codes "\n")
 unfolding smb_line told_of told_line words_of told_words
 smb_is place (StartReply session) = ok_line place (codes "start" ∷ decimal session ∷ [])
@@ -56,7 +82,7 @@ smb_is place (OpenReply index false id length) = ok_line place (codes "open" ∷
 smb_is place (CloseReply Kept) = ok_line place (codes "close" ∷ codes "kept" ∷ [])
 smb_is place (CloseReply Pending) = ok_line place (codes "close" ∷ codes "pending" ∷ [])
 smb_is place (CloseReply Gone) = ok_line place (codes "close" ∷ codes "gone" ∷ [])
-smb_is place (BytesReply view) = tt
+smb_is place (BytesReply view) = bytes_are place view
 smb_is place (WriteReply count length) = ok_line place (codes "write" ∷ decimal count ∷ decimal length ∷ [])
 smb_is place (ResizeReply length) = ok_line place (codes "resize" ∷ decimal length ∷ [])
 smb_is place LockReply = ok_line place (codes "lock" ∷ [])
@@ -64,10 +90,6 @@ smb_is place UnlockReply = ok_line place (codes "unlock" ∷ [])
 smb_is place (StatsReply id dir length attributes created written changed) = tt
 smb_is place (NamesReply page) = tt
 smb_is place DisposeReply = ok_line place (codes "dispose" ∷ [])
-
--- the line feed
-abbrev feed : List ℕ
-feed = codes "\n"
 
 -- a refusal's line, by its word, place and message
 front_then : (word place message : List ℕ) (ws : List (List ℕ)) → 32 ∷ (message ++ feed) ≡ behind_then ws feed

@@ -5,6 +5,8 @@ pub mod HandleWords
 pub mod MessageWords
 pub mod OnlyPrinted
 pub mod MessageBack
+pub mod HexWords
+pub mod ViewBytes
 pub mod ReadBack
 pub mod Answered
 pub mod DoorLines

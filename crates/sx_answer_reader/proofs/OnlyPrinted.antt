@@ -10,21 +10,22 @@ use Rattle.sx_lines.specs.Reading.{when_some}
 use Rattle.sx_lines.specs.Words.{first_word, behind_first, next_word, behind_next}
 use Rattle.sx_lines.proofs.SpelledWords.{IsBehind}
 use Rattle.sx_answer_reader.specs.declared.kind.Kind.{Kind}
-use Rattle.sx_answer_reader.specs.declared.kind.Kind.TheVariants.{Start, End, Open, Close, Write, Resize, Lock, Unlock, Dispose}
+use Rattle.sx_answer_reader.specs.declared.kind.Kind.TheVariants.{Start, End, Open, Close, Read, Write, Resize, Lock, Unlock, Dispose}
 use Rattle.sx_answer_reader.specs.declared.answer.Told.{Told}
-use Rattle.sx_answer_reader.specs.declared.answer.Told.TheVariants.{Started, Ended, Opened, Closed, Wrote, Resized, Locked, Unlocked, Disposed}
+use Rattle.sx_answer_reader.specs.declared.answer.Told.TheVariants.{Started, Ended, Opened, Closed, Read as BytesRead, Wrote, Resized, Locked, Unlocked, Disposed}
 use Rattle.sx_answer_reader.specs.declared.answer.Answer.{Answer}
 use Rattle.sx_answer_reader.specs.declared.answer.Answer.TheVariants.{Done, Refused, Syntax, Long, Stop as Stopped}
-use Rattle.sx_answer_reader.specs.Answers.{told_words, words_of, told_line, made_word, fate_word, FitsTold, Fits}
-use Rattle.sx_answer_reader.specs.Words.{number, count, index, choice, fate, end_of}
-use Rattle.sx_answer_reader.specs.Grammar.{started, ended, opened, closed, wrote, resized, bare, told_by, kind_of, told, done, syntax, long, full, stopped, refused, failed, answer_of}
+use Rattle.sx_answer_reader.specs.Answers.{told_words, words_of, told_line, made_word, fate_word, hex_text, FitsTold, Fits}
+use Rattle.sx_answer_reader.specs.Words.{number, count, index, choice, fate, bytes_of, end_of}
+use Rattle.sx_answer_reader.specs.Grammar.{started, ended, opened, closed, bytes_read, read, wrote, resized, bare, told_by, kind_of, told, done, syntax, long, full, stopped, refused, failed, answer_of}
 use Rattle.sx_answer_reader.specs.declared.reason.Reason.{Reason}
 use Rattle.sx_answer_reader.specs.declared.reason.Reason.TheVariants.{ShareAbsent, ParentAbsent, NameAbsent, NameThere, IsDirectory, IsFile, LeaseHeld, Pending, ReadOnly, Shared, Locked as LockInTheWay, NotLocked, QuotaMet, OpensFull, NoHandle, LacksAccess}
 use Rattle.sx_answer_reader.specs.Refusals.{reason_word, message_words}
 use Rattle.sx_answer_reader.specs.Messages.{message}
 use Rattle.sx_answer_reader.proofs.MessageWords.{message_is}
 use Rattle.sx_answer_reader.proofs.Walks.{behind, joined, first_shaped, next_shaped, whole, stands, nothing, chosen}
-use Rattle.sx_answer_reader.proofs.WrittenFields.{some_is, same_text, number_is, count_is, index_is, made_is, made_some, fate_is, fate_some, kind_word, kind_is, kind_some}
+use Rattle.sx_answer_reader.proofs.WrittenFields.{some_is, same_text, number_is, count_is, index_is, made_is, made_some, fate_is, fate_some, kind_word, kind_is, kind_some, kept_if}
+use Rattle.sx_answer_reader.proofs.HexWords.{bytes_is}
 
 -- what is told has a first word, and the words behind it stand here
 abbrev pub Spells : Told → List ℕ → List ℕ → Type 0
@@ -82,6 +83,22 @@ closed_is k t h e =
     subst (λ (x : Told). Spells x (codes "close") k) (some_is (Closed a.0) t b.2)
     (fate_word a.0 ∷ [], refl, last k (fate_word a.0) b.0 h (fate_is k a.0 a.1) (fate_some a.0) b.1, tt)
 
+read_is : (k : List ℕ) (t : Told) → IsBehind k → read k ≡ Some t → Spells t (codes "read") k
+unfolding read bytes_read told_words
+read_is k t h e =
+    let hex = behind_next k in
+    let a = chosen (number k) (λ n. when_some (end_of (behind_next hex)) (λ _. when_some (bytes_of (next_word hex)) (λ x. cond (length x == n) (Some (BytesRead x)) None))) t e in
+    let u = chosen (end_of (behind_next hex)) (λ _. when_some (bytes_of (next_word hex)) (λ x. cond (length x == a.0) (Some (BytesRead x)) None)) t a.2 in
+    let b = chosen (bytes_of (next_word hex)) (λ x. cond (length x == a.0) (Some (BytesRead x)) None) t u.2 in
+    let p = kept_if (length b.0 == a.0) (BytesRead b.0) t b.2 in
+    let same = eqb-true (length b.0) a.0 p.0 in
+    let n = number_is k a.0 a.1 in
+    let w = bytes_is (next_word hex) b.0 b.1 in
+    let s1 = last hex (hex_text b.0) u.0 (next_shaped k) w.0 w.1 u.1 in
+    let s0 = stands k (decimal a.0) (hex_text b.0 ∷ []) h n.0 n.1 s1 in
+    subst (λ (x : Told). Spells x (codes "read") k) p.1
+    (decimal (length b.0) ∷ hex_text b.0 ∷ [], refl, ap (λ (m : ℕ). behind (decimal m ∷ hex_text b.0 ∷ [])) same ∙ s0, (w.2, omega (arith, same, n.3)))
+
 wrote_is : (k : List ℕ) (t : Told) → IsBehind k → wrote k ≡ Some t → Spells t (codes "write") k
 unfolding wrote told_words
 wrote_is k t h e =
@@ -116,6 +133,7 @@ by_kind Start k t h e = started_is k t h e
 by_kind End k t h e = ended_is k t h e
 by_kind Open k t h e = opened_is k t h e
 by_kind Close k t h e = closed_is k t h e
+by_kind Read k t h e = read_is k t h e
 by_kind Write k t h e = wrote_is k t h e
 by_kind Resize k t h e = resized_is k t h e
 by_kind Lock k t h e = bare_is k (codes "lock") Locked t refl tt e

@@ -1,5 +1,5 @@
 -- The line of an answer is read as this answer.
-use Rattle.std.proofs.Common.{codes, ◌≡◌, ℕ, Bool, true, false, cond, List, [], ◌∷◌, ◌++◌, Some, None, bytes_eq}
+use Rattle.std.proofs.Common.{codes, ◌≡◌, ℕ, Bool, true, false, cond, ◌==◌, List, [], ◌∷◌, ◌++◌, length, Some, None, bytes_eq}
 use Rattle.std.proofs.Common.{refl, sym, ap, ◌∙◌, arith}
 use Rattle.std.specs.List.{join_with_byte}
 use Rattle.std.specs.Fmt.{decimal}
@@ -12,20 +12,23 @@ use Rattle.sx_lines.specs.Words.{next_word}
 use Rattle.sx_lines.proofs.SpelledWords.{IsWord, IsBehind, first_is, behind_is, next_is, rest_is}
 use Rattle.sx_lines.proofs.SpelledNumbers.{number_is}
 use Rattle.sx_answer_reader.specs.declared.kind.Kind.{Kind}
-use Rattle.sx_answer_reader.specs.declared.kind.Kind.TheVariants.{Start, End, Open, Close, Write, Resize, Lock, Unlock, Dispose}
+use Rattle.sx_answer_reader.specs.declared.kind.Kind.TheVariants.{Start, End, Open, Close, Read, Write, Resize, Lock, Unlock, Dispose}
 use Rattle.sx_answer_reader.specs.declared.answer.Told.{Told}
-use Rattle.sx_answer_reader.specs.declared.answer.Told.TheVariants.{Started, Ended, Opened, Closed, Wrote, Resized, Locked, Unlocked, Disposed}
+use Rattle.sx_answer_reader.specs.declared.answer.Told.TheVariants.{Started, Ended, Opened, Closed, Read as BytesRead, Wrote, Resized, Locked, Unlocked, Disposed}
 use Rattle.sx_answer_reader.specs.declared.answer.Answer.{Answer}
 use Rattle.sx_answer_reader.specs.declared.answer.Answer.TheVariants.{Done, Refused, Syntax, Long, Stop as Stopped}
-use Rattle.sx_answer_reader.specs.Answers.{told_words, words_of, told_line, made_word, fate_word, FitsTold, FitsStop, Fits}
+use Rattle.sx_answer_reader.specs.Answers.{told_words, words_of, told_line, made_word, fate_word, hex_text, FitsTold, FitsStop, Fits}
 use Rattle.sx_answer_reader.specs.Words.{index, choice, fate, end_of}
-use Rattle.sx_answer_reader.specs.Grammar.{started, ended, opened, closed, wrote, resized, bare, told_by, kind_of, told, done, syntax, long, full, stopped, refused, failed, answer_of}
+use Rattle.sx_answer_reader.specs.Grammar.{started, ended, opened, closed, bytes_read, read, wrote, resized, bare, told_by, kind_of, told, done, syntax, long, full, stopped, refused, failed, answer_of}
 use Rattle.sx_answer_reader.specs.declared.reason.Reason.{Reason}
 use Rattle.sx_answer_reader.specs.declared.reason.Reason.TheVariants.{ShareAbsent, ParentAbsent, NameAbsent, NameThere, IsDirectory, IsFile, LeaseHeld, Pending, ReadOnly, Shared, Locked as LockInTheWay, NotLocked, QuotaMet, OpensFull, NoHandle, LacksAccess}
 use Rattle.sx_answer_reader.specs.Limits.{IsNumber, IsCount, IsIndex}
 use Rattle.sx_answer_reader.specs.Refusals.{reason_word, message_words, FitsReason}
 use Rattle.sx_answer_reader.specs.Messages.{message}
 use Rattle.sx_answer_reader.proofs.MessageBack.{number_word, count_word, number_back, count_back, same_word, IsAsked, message_back}
+use Rattle.hex.specs.Hex.{IsBytes}
+use Rattle.std.proofs.lemmas.Bool.{eq-eqb}
+use Rattle.sx_answer_reader.proofs.HexWords.{hex_visible, bytes_back}
 use Rattle.sx_answer_reader.proofs.Walks.{behind, joined, behind_shaped}
 
 -- ---- fields
@@ -93,6 +96,22 @@ closed_back : (f : Fate) → closed (32 ∷ (fate_word f ++ [])) ≡ Some (Close
 unfolding closed end_of
 closed_back f = rw (fate_back f [] tt, rest_is (fate_word f) [] (fate_visible f) tt) refl
 
+same_number : (n : ℕ) → (n == n) ≡ true
+same_number n = eq-eqb n n refl
+
+read_back : (bytes : List ℕ) → IsBytes bytes → IsNumber (length bytes) → read (32 ∷ (decimal (length bytes) ++ 32 ∷ (hex_text bytes ++ []))) ≡ Some (BytesRead bytes)
+unfolding read bytes_read end_of
+read_back bytes h n =
+    let k1 = 32 ∷ (hex_text bytes ++ []) in
+    rw (
+      rest_is (decimal (length bytes)) k1 (number_word (length bytes) n) refl,
+      rest_is (hex_text bytes) [] (hex_visible bytes h) tt,
+      number_back (length bytes) k1 n refl,
+      next_is (hex_text bytes) [] (hex_visible bytes h) tt,
+      bytes_back bytes h,
+      same_number (length bytes),
+    ) refl
+
 wrote_back : (n l : ℕ) → IsCount n → IsNumber l → wrote (32 ∷ (decimal n ++ 32 ∷ (decimal l ++ []))) ≡ Some (Wrote n l)
 unfolding wrote end_of
 wrote_back n l hn hl =
@@ -125,6 +144,8 @@ told_back (Opened i made id l) h =
     by_word (codes "open") (32 ∷ (decimal i ++ 32 ∷ (made_word made ++ 32 ∷ (decimal id ++ 32 ∷ (decimal l ++ []))))) Open (Opened i made id l) refl refl refl
     (opened_back i made id l h.0 h.1 h.2)
 told_back (Closed f) h = by_word (codes "close") (32 ∷ (fate_word f ++ [])) Close (Closed f) refl refl refl (closed_back f)
+told_back (BytesRead bytes) h =
+    by_word (codes "read") (32 ∷ (decimal (length bytes) ++ 32 ∷ (hex_text bytes ++ []))) Read (BytesRead bytes) refl refl refl (read_back bytes h.0 h.1)
 told_back (Wrote n l) h = by_word (codes "write") (32 ∷ (decimal n ++ 32 ∷ (decimal l ++ []))) Write (Wrote n l) refl refl refl (wrote_back n l h.0 h.1)
 told_back (Resized l) h = by_word (codes "resize") (32 ∷ (decimal l ++ [])) Resize (Resized l) refl refl refl (resized_back l h)
 told_back Locked h = by_word (codes "lock") [] Lock Locked refl tt refl (bare_back Locked)

@@ -1,12 +1,12 @@
 -- Fields that are read of a line's next word: what this word is.
-use Rattle.std.proofs.Common.{codes, ◌≡◌, ℕ, ◌<◌, Bool, true, false, cond, List, [], ◌∷◌, length, Some, bytes_eq}
+use Rattle.std.proofs.Common.{codes, ◌≡◌, ℕ, ◌<◌, Bool, true, false, cond, List, [], ◌∷◌, length, Some, None, bytes_eq}
 use Rattle.std.proofs.Common.{refl, ap, ◌∙◌, arith}
 use Rattle.std.proofs.lemmas.Slice.Eq.{bytes_eq-Decides}
 use Rattle.sx_call.specs.declared.replies.Fate.{Fate}
 use Rattle.sx_call.specs.declared.replies.Fate.TheVariants.{Kept, Pending, Gone}
 use Rattle.sx_lines.specs.Words.{next_word}
 use Rattle.sx_answer_reader.specs.declared.kind.Kind.{Kind}
-use Rattle.sx_answer_reader.specs.declared.kind.Kind.TheVariants.{Start, End, Open, Close, Write, Resize, Lock, Unlock, Dispose}
+use Rattle.sx_answer_reader.specs.declared.kind.Kind.TheVariants.{Start, End, Open, Close, Read, Write, Resize, Lock, Unlock, Dispose}
 use Rattle.sx_answer_reader.specs.Answers.{made_word, fate_word}
 use Rattle.sx_answer_reader.specs.Words.{number, count, index, choice, fate, found}
 use Rattle.sx_answer_reader.specs.Grammar.{kind_of}
@@ -14,6 +14,11 @@ use Rattle.sx_answer_reader.proofs.Numerals.{IsNumeral, numeral}
 
 pub some_is : {A : Type 0} (a b : A) → Some a ≡ Some b → a ≡ b
 some_is a b e = cc
+
+-- a value that is given where a test holds
+pub kept_if : {A : Type 0} (b : Bool) (x a : A) → cond b (Some x) None ≡ Some a → (b ≡ true) × (x ≡ a)
+kept_if true x a e = (refl, some_is x a e)
+kept_if false x a e = cc
 
 pub same_text : (v w : List ℕ) → bytes_eq v w ≡ true → v ≡ w
 same_text v w e = (bytes_eq-Decides v w).0 e
@@ -67,6 +72,7 @@ kind_word Start = codes "start"
 kind_word End = codes "end"
 kind_word Open = codes "open"
 kind_word Close = codes "close"
+kind_word Read = codes "read"
 kind_word Write = codes "write"
 kind_word Resize = codes "resize"
 kind_word Lock = codes "lock"
@@ -78,15 +84,16 @@ unfolding kind_of
 kind_is w kind e =
     found_is kind_word (
     (codes "start", Start) ∷ (codes "end", End) ∷ (codes "open", Open) ∷ (codes "close", Close)
-    ∷ (codes "write", Write) ∷ (codes "resize", Resize) ∷ (codes "lock", Lock) ∷ (codes "unlock", Unlock)
+    ∷ (codes "read", Read) ∷ (codes "write", Write) ∷ (codes "resize", Resize) ∷ (codes "lock", Lock) ∷ (codes "unlock", Unlock)
     ∷ (codes "dispose", Dispose) ∷ [])
-    w kind (refl, (refl, (refl, (refl, (refl, (refl, (refl, (refl, (refl, tt))))))))) e
+    w kind (refl, (refl, (refl, (refl, (refl, (refl, (refl, (refl, (refl, (refl, tt)))))))))) e
 
 pub kind_some : (kind : Kind) → 0 < length (kind_word kind)
 kind_some Start = omega arith
 kind_some End = omega arith
 kind_some Open = omega arith
 kind_some Close = omega arith
+kind_some Read = omega arith
 kind_some Write = omega arith
 kind_some Resize = omega arith
 kind_some Lock = omega arith

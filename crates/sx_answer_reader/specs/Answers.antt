@@ -1,14 +1,16 @@
 -- The lines of a session's answers, by their words.
-use Rattle.std.specs.Prelude.{codes, ℕ, Bool, if◌then◌else◌, List, [], ◌∷◌, ⊤}
+use Rattle.std.specs.Prelude.{codes, ℕ, ◌==◌, Bool, if◌then◌else◌, List, [], ◌∷◌, length, ⊤}
 use Rattle.std.specs.List.{join_with_byte}
 use Rattle.std.specs.Fmt.{decimal}
+use Rattle.hex.specs.Hex.{encode_lower, IsBytes}
 use Rattle.sx_call.specs.declared.refusals.Stop.{Stop}
 use Rattle.sx_call.specs.declared.refusals.Stop.TheVariants.{NoMemory, HistoryFull}
 use Rattle.sx_call.specs.declared.replies.Fate.{Fate}
 use Rattle.sx_call.specs.declared.replies.Fate.TheVariants.{Kept, Pending, Gone}
 use Rattle.sx_lines.specs.declared.line.TheConstants.{LINE_LIMIT}
 use Rattle.sx_answer_reader.specs.declared.answer.Told.{Told}
-use Rattle.sx_answer_reader.specs.declared.answer.Told.TheVariants.{Started, Ended, Opened, Closed, Wrote, Resized}
+use Rattle.sx_answer_reader.specs.declared.answer.Told.TheVariants.{Started, Ended, Opened, Closed, Read, Wrote}
+use Rattle.sx_answer_reader.specs.declared.answer.Told.TheVariants.{Resized}
 use Rattle.sx_answer_reader.specs.declared.answer.Told.TheVariants.{Locked, Unlocked, Disposed}
 use Rattle.sx_answer_reader.specs.Limits.{IsNumber, IsCount, IsIndex}
 use Rattle.sx_answer_reader.specs.Refusals.{reason_word, message_words, FitsReason}
@@ -25,6 +27,10 @@ fate_word Gone = codes "gone"
 abbrev pub made_word : Bool → List ℕ
 made_word made = if made then codes "created" else codes "opened"
 
+-- bytes in lower-case hexadecimal digits, and `-` for none
+abbrev pub hex_text : List ℕ → List ℕ
+hex_text bytes = if length bytes == 0 then codes "-" else encode_lower bytes
+
 -- the words that tell what became of a call that was not refused
 unfoldable pub told_words : Told → List (List ℕ)
 told_words (Started session) = codes "start" ∷ decimal session ∷ []
@@ -32,6 +38,7 @@ told_words (Ended closed) = codes "end" ∷ decimal closed ∷ []
 told_words (Opened index made id length) =
     codes "open" ∷ decimal index ∷ made_word made ∷ decimal id ∷ decimal length ∷ []
 told_words (Closed fate) = codes "close" ∷ fate_word fate ∷ []
+told_words (Read bytes) = codes "read" ∷ decimal (length bytes) ∷ hex_text bytes ∷ []
 told_words (Wrote count length) = codes "write" ∷ decimal count ∷ decimal length ∷ []
 told_words (Resized length) = codes "resize" ∷ decimal length ∷ []
 told_words Locked = codes "lock" ∷ []
@@ -56,12 +63,13 @@ words_of (Stopped stop) = codes "ERR" ∷ stop_words stop
 unfoldable pub told_line : Answer → List ℕ
 told_line answer = join_with_byte 32 (words_of answer)
 
--- the numbers of what is told fit their fields
+-- the numbers and bytes of what is told fit their fields
 abbrev pub FitsTold : Told → Type 0
 FitsTold (Started session) = IsCount session
 FitsTold (Ended closed) = IsCount closed
 FitsTold (Opened index made id length) = IsIndex index × IsNumber id × IsNumber length
 FitsTold (Closed fate) = ⊤
+FitsTold (Read bytes) = IsBytes bytes × IsNumber (length bytes)
 FitsTold (Wrote count length) = IsCount count × IsNumber length
 FitsTold (Resized length) = IsNumber length
 FitsTold Locked = ⊤
@@ -73,7 +81,7 @@ abbrev pub FitsStop : Stop → Type 0
 FitsStop NoMemory = ⊤
 FitsStop (HistoryFull entries sessions limit) = IsNumber entries × IsNumber sessions × IsNumber limit
 
--- the numbers of an answer fit their fields, as those of every answer in a program do
+-- the numbers and bytes of an answer fit their fields, as those of every answer in a program do
 abbrev pub Fits : Answer → Type 0
 Fits (Done place told) = IsNumber place × FitsTold told
 Fits (Refused place reason) = IsNumber place × FitsReason reason

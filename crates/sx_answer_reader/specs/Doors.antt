@@ -14,6 +14,7 @@ use Rattle.sx_call.specs.declared.refusals.Refusal.TheVariants.{NoHandle as BadH
 use Rattle.sx_call.specs.declared.replies.SmbReply.{SmbReply}
 use Rattle.sx_call.specs.declared.replies.SmbReply.TheVariants.{Started as StartReply, Ended as EndReply}
 use Rattle.sx_call.specs.declared.replies.SmbReply.TheVariants.{Opened as OpenReply, Closed as CloseReply}
+use Rattle.sx_call.specs.declared.replies.SmbReply.TheVariants.{Bytes as BytesReply}
 use Rattle.sx_call.specs.declared.replies.SmbReply.TheVariants.{Wrote as WriteReply, Resized as ResizeReply}
 use Rattle.sx_call.specs.declared.replies.SmbReply.TheVariants.{Locked as LockReply, Unlocked as UnlockReply}
 use Rattle.sx_call.specs.declared.replies.SmbReply.TheVariants.{Disposed as DisposeReply}
@@ -22,7 +23,8 @@ use Rattle.sx_lines.specs.declared.answer.LineAnswer.TheVariants.{Core, Syntax a
 use Rattle.sx_lines.specs.declared.answer.LineAnswer.TheVariants.{Stop as StopAnswer}
 use Rattle.sx_lines.specs.Answers.{answer_line}
 use Rattle.sx_answer_reader.specs.declared.answer.Told.{Told}
-use Rattle.sx_answer_reader.specs.declared.answer.Told.TheVariants.{Started, Ended, Opened, Closed, Wrote, Resized}
+use Rattle.sx_answer_reader.specs.declared.answer.Told.TheVariants.{Started, Ended, Opened, Closed, Read, Wrote}
+use Rattle.sx_answer_reader.specs.declared.answer.Told.TheVariants.{Resized}
 use Rattle.sx_answer_reader.specs.declared.answer.Told.TheVariants.{Locked, Unlocked, Disposed}
 use Rattle.sx_answer_reader.specs.declared.answer.Answer.{Answer}
 use Rattle.sx_answer_reader.specs.declared.answer.Answer.TheVariants.{Done, Refused, Syntax, Long, Stop}
@@ -40,6 +42,7 @@ told_of (StartReply session) = Some (Started session)
 told_of (EndReply closed) = Some (Ended closed)
 told_of (OpenReply index made id length) = Some (Opened index made id length)
 told_of (CloseReply fate) = Some (Closed fate)
+told_of (BytesReply view) = Some (Read view)
 told_of (WriteReply count length) = Some (Wrote count length)
 told_of (ResizeReply length) = Some (Resized length)
 told_of LockReply = Some Locked

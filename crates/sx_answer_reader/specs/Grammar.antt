@@ -1,22 +1,23 @@
 -- What the words of an answer's line spell, one after another. Each name in a function is what is left of the line from
 -- that word on, behind the word before it.
-use Rattle.std.specs.Prelude.{ℕ, ◌==◌, bytes_eq, codes, List, [], ◌∷◌, if◌then◌else◌}
+use Rattle.std.specs.Prelude.{ℕ, ◌==◌, bytes_eq, codes, List, [], ◌∷◌, length, if◌then◌else◌}
 use Rattle.std.specs.Prelude.{Option, Some, None}
 use Rattle.sx_call.specs.declared.refusals.Stop.TheVariants.{NoMemory, HistoryFull}
 use Rattle.sx_lines.specs.declared.line.TheConstants.{LINE_LIMIT}
 use Rattle.sx_lines.specs.Reading.{when_some}
 use Rattle.sx_lines.specs.Words.{first_word, behind_first, next_word, behind_next}
-use Rattle.sx_answer_reader.specs.Words.{end_of, number, count, index, choice, fate, found}
+use Rattle.sx_answer_reader.specs.Words.{end_of, number, count, index, choice, fate, bytes_of, found}
 use Rattle.sx_answer_reader.specs.Messages.{message}
 use Rattle.sx_answer_reader.specs.Refusals.{reason_word}
 use Rattle.sx_answer_reader.specs.declared.answer.Told.{Told}
-use Rattle.sx_answer_reader.specs.declared.answer.Told.TheVariants.{Started, Ended, Opened, Closed, Wrote, Resized}
+use Rattle.sx_answer_reader.specs.declared.answer.Told.TheVariants.{Started, Ended, Opened, Closed}
+use Rattle.sx_answer_reader.specs.declared.answer.Told.TheVariants.{Read as BytesRead, Wrote, Resized}
 use Rattle.sx_answer_reader.specs.declared.answer.Told.TheVariants.{Locked, Unlocked, Disposed}
 use Rattle.sx_answer_reader.specs.declared.answer.Answer.{Answer}
 use Rattle.sx_answer_reader.specs.declared.answer.Answer.TheVariants.{Done, Refused, Syntax, Long, Stop as Stopped}
 use Rattle.sx_answer_reader.specs.declared.kind.Kind.{Kind}
-use Rattle.sx_answer_reader.specs.declared.kind.Kind.TheVariants.{Start, End, Open, Close, Write, Resize, Lock, Unlock}
-use Rattle.sx_answer_reader.specs.declared.kind.Kind.TheVariants.{Dispose}
+use Rattle.sx_answer_reader.specs.declared.kind.Kind.TheVariants.{Start, End, Open, Close, Read, Write}
+use Rattle.sx_answer_reader.specs.declared.kind.Kind.TheVariants.{Resize, Lock, Unlock, Dispose}
 
 -- `start SESSION`
 unfoldable pub started : List ℕ → Option Told
@@ -52,6 +53,20 @@ closed word =
     when_some (end_of (behind_next word)) (λ _.
     Some (Closed f)))
 
+-- so many bytes
+unfoldable pub bytes_read : ℕ → List ℕ → Option Told
+bytes_read count hex =
+    when_some (bytes_of (next_word hex)) (λ bytes.
+    if length bytes == count then Some (BytesRead bytes) else None)
+
+-- `read N HEX`
+unfoldable pub read : List ℕ → Option Told
+read n =
+    let hex = behind_next n in
+    when_some (number n) (λ count.
+    when_some (end_of (behind_next hex)) (λ _.
+    bytes_read count hex))
+
 -- `write N LENGTH`
 unfoldable pub wrote : List ℕ → Option Told
 wrote n =
@@ -78,6 +93,7 @@ told_by Start behind = started behind
 told_by End behind = ended behind
 told_by Open behind = opened behind
 told_by Close behind = closed behind
+told_by Read behind = read behind
 told_by Write behind = wrote behind
 told_by Resize behind = resized behind
 told_by Lock behind = bare Locked behind
@@ -89,8 +105,8 @@ unfoldable pub kind_of : List ℕ → Option Kind
 kind_of word =
     found (
     (codes "start", Start) ∷ (codes "end", End) ∷ (codes "open", Open) ∷ (codes "close", Close)
-    ∷ (codes "write", Write) ∷ (codes "resize", Resize) ∷ (codes "lock", Lock) ∷ (codes "unlock", Unlock)
-    ∷ (codes "dispose", Dispose) ∷ [])
+    ∷ (codes "read", Read) ∷ (codes "write", Write) ∷ (codes "resize", Resize) ∷ (codes "lock", Lock)
+    ∷ (codes "unlock", Unlock) ∷ (codes "dispose", Dispose) ∷ [])
     word
 
 -- what a call is told, behind the place of its entry

@@ -3,8 +3,10 @@ use Rattle.std.specs.Prelude.{ℕ, ◌==◌, Bool, true, false, bytes_eq, codes,
 use Rattle.std.specs.Prelude.{Option, Some, None}
 use Rattle.sx_call.specs.declared.replies.Fate.{Fate}
 use Rattle.sx_call.specs.declared.replies.Fate.TheVariants.{Kept, Pending, Gone}
+use Rattle.sx_lines.specs.Reading.{when_some}
 use Rattle.sx_lines.specs.Words.{next_word}
-use Rattle.sx_lines.specs.Fields.{number_in}
+use Rattle.sx_lines.specs.Fields.{number_in, hex_bytes_of}
+use Rattle.sx_answer_reader.specs.Answers.{hex_text}
 
 -- no word stands there any more
 unfoldable pub end_of : List ℕ → Option (Unit {0})
@@ -39,3 +41,15 @@ fate behind =
 -- a word that must stand there
 unfoldable pub literal : List ℕ → List ℕ → Option (Unit {0})
 literal word behind = if bytes_eq (next_word behind) word then Some tt else None
+
+-- the bytes of hexadecimal digits in either case, and none of `-`
+abbrev pub digits_or_dash : List ℕ → Option (List ℕ)
+digits_or_dash word = if bytes_eq word (codes "-") then Some [] else hex_bytes_of word
+
+-- bytes, where the word is how they are written
+abbrev pub written_as : List ℕ → List ℕ → Option (List ℕ)
+written_as bytes word = if bytes_eq (hex_text bytes) word then Some bytes else None
+
+-- the bytes that a word is how to write
+unfoldable pub bytes_of : List ℕ → Option (List ℕ)
+bytes_of word = when_some (digits_or_dash word) (λ bytes. written_as bytes word)

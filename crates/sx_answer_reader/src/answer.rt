@@ -1,6 +1,8 @@
 //! What the lines of a session's answers tell.
 
 use crate::reason::Reason;
+use std::alloc::AllocError;
+use sx_base::{Items, NoMemory};
 use sx_call::{Fate, Stop};
 use sx_guard::HandleIndex;
 
@@ -32,6 +34,11 @@ pub enum Told {
     Closed {
         /// What its file or directory is now.
         fate: Fate,
+    },
+    /// The bytes that were read.
+    Read {
+        /// They are none at or past the end of the file.
+        bytes: Items<u8>,
     },
     /// The bytes are written.
     Wrote {
@@ -86,4 +93,28 @@ pub enum Answer {
 pub enum Unread {
     /// It is the line of no answer that is read here.
     NoAnswer,
+    /// No memory was left to keep what is told.
+    NoMemory,
+}
+
+impl From<AllocError> for Unread {
+    ghost use Rattle.std.specs.Prelude.{◌≡◌};
+    ghost use Rattle.sx_answer_reader.specs.declared.answer.Unread.TheVariants.{NoMemory};
+
+    ghost from_gives = { λ _ e. e ≡ NoMemory };
+
+    fn from(_error: AllocError) -> Unread {
+        Unread::NoMemory
+    }
+}
+
+impl From<NoMemory> for Unread {
+    ghost use Rattle.std.specs.Prelude.{◌≡◌};
+    ghost use Rattle.sx_answer_reader.specs.declared.answer.Unread.TheVariants.{NoMemory};
+
+    ghost from_gives = { λ _ e. e ≡ NoMemory };
+
+    fn from(_error: NoMemory) -> Unread {
+        Unread::NoMemory
+    }
 }

@@ -13,6 +13,8 @@ pub(crate) enum Kind {
     Open,
     /// `close`
     Close,
+    /// `read`
+    Read,
     /// `write`
     Write,
     /// `resize`
@@ -38,6 +40,8 @@ pub(crate) fn kind_of(word: &[u8]) -> Option<Kind>
         Some(Kind::Open)
     } else if word == b"close".as_slice() {
         Some(Kind::Close)
+    } else if word == b"read".as_slice() {
+        Some(Kind::Read)
     } else if word == b"write".as_slice() {
         Some(Kind::Write)
     } else if word == b"resize".as_slice() {

@@ -1,5 +1,6 @@
 //! That what a session's door prints is read back.
-ghost use Rattle.std.specs.Prelude.{IfSome, option_map, ◌-◌};
+ghost use Rattle.std.specs.Prelude.{IfSome, option_map, ◌-◌, ◌<◌, length, get_or};
+ghost use Rattle.hex.specs.Hex.{IsBytes};
 ghost use Rattle.sx_answer_reader.specs.Answers.{Fits, FitsStop};
 ghost use Rattle.sx_answer_reader.specs.Limits.{IsNumber};
 ghost use Rattle.sx_answer_reader.specs.Refusals.{IsHandle};
@@ -7,11 +8,12 @@ ghost use Rattle.sx_answer_reader.specs.declared.answer.Answer.TheVariants.{Done
 ghost use Rattle.sx_answer_reader.specs.Doors.{told_of, reason_of, reply_told, answer_told, IsLineOf};
 
 use sx_call::{Refusal, Reply, SmbReply, Stop};
+use sx_extent::View;
 use sx_guard::{HandleId, Held};
 use sx_lines::LineAnswer;
 
 /// What a session's door prints for an answer is the line of what the answer tells, with a line feed behind it, and
-/// its numbers fit: so `read_line` reads it back as exactly this. It does nothing.
+/// its numbers and bytes fit: so `read_line` reads it back as exactly this. It changes nothing.
 pub fn printed_answers_are_told(answer: &LineAnswer)
     ensures line { IsLineOf answer.now }
     ensures fits { IfSome (answer_told answer.now) Fits }
@@ -76,7 +78,28 @@ fn reply_fits(place: u64, reply: &Reply, locking: bool)
     }
 }
 
-/// What the types of the numbers that are told keep. It does nothing.
+/// That what stands at a place of a view is a byte. It changes nothing.
+fn byte_fits(view: &View, at: u64)
+    requires { at < length view.now }
+    ensures { get_or view.now at 0 < 256 }
+{
+    let mut byte = [0u8; 1];
+    view.read_into(at, &mut byte);
+    let _byte = byte[0];
+}
+
+/// That a view is bytes, and its length a number of 64 bits. It reads the view through, and changes nothing.
+fn view_fits(view: &View)
+    ensures bytes { IsBytes view.now }
+    ensures count { IsNumber (length view.now) }
+{
+    let count = view.length();
+    for at in 0..count {
+        byte_fits(view, at);
+    }
+}
+
+/// What the types of the numbers that are told keep. It changes nothing.
 #[tactic(auto, unfolding(crate::specs::Doors::told_of))]
 fn told_fits(place: u64, reply: &SmbReply)
     ensures { IfSome (option_map (Done place) (told_of reply.now)) Fits }
@@ -98,6 +121,7 @@ fn told_fits(place: u64, reply: &SmbReply)
             let _id = *id;
             let _length = *length;
         }
+        SmbReply::Bytes { view } => view_fits(view),
         SmbReply::Wrote { count, length } => {
             let _count = *count;
             let _length = *length;

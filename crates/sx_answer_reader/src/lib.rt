@@ -2,6 +2,7 @@
 #![tactic(auto)]
 
 mod answer;
+mod bytes;
 mod kind;
 mod laws;
 mod messages;
@@ -16,3 +17,4 @@ pub use answer::{Answer, Told, Unread};
 pub use laws::printed_answers_are_told;
 pub use reading::read_line;
 pub use reason::Reason;
+pub use sx_base::{Items, NoMemory};

@@ -10,16 +10,17 @@ use crate::messages::message;
 use crate::reason::{Reason, reason_word};
 use crate::told::told;
 use crate::words::{behind_first, behind_next, end_of, first_word, next_word, number};
+use std::alloc::Global;
 use sx_call::Stop;
 use sx_lines::LINE_LIMIT;
 
 /// `OK PLACE` and what the call is told.
 #[tactic(auto, unfolding(crate::specs::Grammar::done))]
-fn done(place: &[u8]) -> Result<Answer, Unread>
+fn done(alloc: Global, place: &[u8]) -> Result<Answer, Unread>
     ensures { Reads result (done place.now) }
 {
     let entry = number(place)?;
-    let told = told(behind_next(place))?;
+    let told = told(alloc, behind_next(place))?;
     Ok(Answer::Done { place: entry, told })
 }
 
@@ -119,12 +120,12 @@ fn failed(behind: &[u8]) -> Result<Answer, Unread>
 
 /// What a line tells, word by word.
 #[tactic(auto, unfolding(crate::specs::Grammar::answer_of))]
-fn answer_of(line: &[u8]) -> Result<Answer, Unread>
+fn answer_of(alloc: Global, line: &[u8]) -> Result<Answer, Unread>
     ensures { Reads result (answer_of line.now) }
 {
     let word = first_word(line);
     if word == b"OK".as_slice() {
-        done(behind_first(line))
+        done(alloc, behind_first(line))
     } else if word == b"ERR".as_slice() {
         failed(behind_first(line))
     } else {
@@ -136,9 +137,10 @@ fn answer_of(line: &[u8]) -> Result<Answer, Unread>
 /// one answer that has this line.
 ///
 /// `NoAnswer` says that no answer has it: one byte more or less, another space, a leading zero or a digit in the other
-/// case suffice.
-pub fn read_line(line: &[u8]) -> Result<Answer, Unread>
+/// case suffice. `NoMemory` comes where no memory is left: bytes that are told are kept, and written once more to be
+/// compared with the line. No other answer takes memory.
+pub fn read_line(alloc: Global, line: &[u8]) -> Result<Answer, Unread>
     ensures { IsRead result line.now }
 {
-    answer_of(line)
+    answer_of(alloc, line)
 }

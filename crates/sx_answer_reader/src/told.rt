@@ -1,11 +1,14 @@
 //! What calls that were not refused are told, call by call.
 ghost use Rattle.sx_answer_reader.specs.Reading.{Reads};
-ghost use Rattle.sx_answer_reader.specs.Grammar.{started, ended, opened, closed, wrote, resized, bare, told_by, told};
+ghost use Rattle.sx_answer_reader.specs.Grammar.{started, ended, opened, closed, bytes_read, read, wrote, resized};
+ghost use Rattle.sx_answer_reader.specs.Grammar.{bare, told_by, told};
 ghost use Rattle.sx_answer_reader.specs.declared.answer.Told.TheVariants as variants;
 
 use crate::answer::{Told, Unread};
+use crate::bytes::bytes_in;
 use crate::kind::{Kind, kind_of};
 use crate::words::{behind_next, choice, count, end_of, fate, index, next_word, number};
+use std::alloc::Global;
 
 /// `start SESSION`
 #[tactic(auto, unfolding(crate::specs::Grammar::started))]
@@ -56,6 +59,30 @@ fn closed(word: &[u8]) -> Result<Told, Unread>
     let fate = fate(word)?;
     end_of(behind_next(word))?;
     Ok(Told::Closed { fate })
+}
+
+/// So many bytes.
+#[tactic(auto, unfolding(crate::specs::Grammar::bytes_read))]
+fn bytes_read(alloc: Global, count: u64, hex: &[u8]) -> Result<Told, Unread>
+    ensures { Reads result (bytes_read count hex.now) }
+{
+    let bytes = bytes_in(alloc, hex)?;
+    if bytes.len() as u64 == count {
+        Ok(Told::Read { bytes })
+    } else {
+        Err(Unread::NoAnswer)
+    }
+}
+
+/// `read N HEX`
+#[tactic(auto, unfolding(crate::specs::Grammar::read))]
+fn read(alloc: Global, n: &[u8]) -> Result<Told, Unread>
+    ensures { Reads result (read n.now) }
+{
+    let hex = behind_next(n);
+    let count = number(n)?;
+    end_of(behind_next(hex))?;
+    bytes_read(alloc, count, hex)
 }
 
 /// `write N LENGTH`
@@ -112,7 +139,7 @@ fn disposed(behind: &[u8]) -> Result<Told, Unread>
 
 /// What a call is told by the words behind its first.
 #[tactic(auto, unfolding(crate::specs::Grammar::told_by))]
-fn told_by(kind: Kind, behind: &[u8]) -> Result<Told, Unread>
+fn told_by(alloc: Global, kind: Kind, behind: &[u8]) -> Result<Told, Unread>
     ensures { Reads result (told_by kind behind.now) }
 {
     match kind {
@@ -120,6 +147,7 @@ fn told_by(kind: Kind, behind: &[u8]) -> Result<Told, Unread>
         Kind::End => ended(behind),
         Kind::Open => opened(behind),
         Kind::Close => closed(behind),
+        Kind::Read => read(alloc, behind),
         Kind::Write => wrote(behind),
         Kind::Resize => resized(behind),
         Kind::Lock => locked(behind),
@@ -130,11 +158,11 @@ fn told_by(kind: Kind, behind: &[u8]) -> Result<Told, Unread>
 
 /// What a call is told, behind the place of its entry.
 #[tactic(auto, unfolding(crate::specs::Grammar::told))]
-pub(crate) fn told(behind: &[u8]) -> Result<Told, Unread>
+pub(crate) fn told(alloc: Global, behind: &[u8]) -> Result<Told, Unread>
     ensures { Reads result (told behind.now) }
 {
     match kind_of(next_word(behind)) {
-        Some(kind) => told_by(kind, behind_next(behind)),
+        Some(kind) => told_by(alloc, kind, behind_next(behind)),
         None => Err(Unread::NoAnswer),
     }
 }

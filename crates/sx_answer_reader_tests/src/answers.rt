@@ -1,12 +1,13 @@
 //! Lines of answers, by hand, and what each tells.
 
+use std::alloc::Global;
 use std::process::Abort;
 use sx_answer_reader::{Answer, Told, read_line};
 use sx_call::{Fate, Stop};
 
 /// The place and what is told of a line that says so.
-fn done(rt: &impl Abort, line: &str, place: u64) -> Told {
-    match read_line(line.as_bytes()) {
+fn done(rt: &impl Abort, alloc: Global, line: &str, place: u64) -> Told {
+    match read_line(alloc, line.as_bytes()) {
         Ok(Answer::Done { place: at, told }) => {
             assert!(rt; at == place, "{line}");
             told
@@ -57,6 +58,14 @@ fn was_closed(rt: &impl Abort, told: &Told, wanted: Fate) {
     }
 }
 
+/// Panics unless these bytes were read.
+fn was_read(rt: &impl Abort, told: &Told, wanted: &[u8]) {
+    match told {
+        Told::Read { bytes } => assert!(rt; bytes.as_slice() == wanted),
+        _ => panic!(rt; "read"),
+    }
+}
+
 /// Panics unless so many bytes were written, and the file is so long now.
 fn was_written(rt: &impl Abort, told: &Told, bytes: u32, now: u64) {
     match told {
@@ -78,12 +87,13 @@ fn was_resized(rt: &impl Abort, told: &Told, now: u64) {
 
 #[test]
 fn sessions_begin_and_end(rt: HostRuntime) {
-    was_started(&rt, &done(&rt, "OK 2 start 1", 2), 1);
-    was_ended(&rt, &done(&rt, "OK 9 end 0", 9), 0);
+    was_started(&rt, &done(&rt, rt.alloc(), "OK 2 start 1", 2), 1);
+    was_ended(&rt, &done(&rt, rt.alloc(), "OK 9 end 0", 9), 0);
     was_ended(
         &rt,
         &done(
             &rt,
+            rt.alloc(),
             "OK 18446744073709551615 end 4294967295",
             18_446_744_073_709_551_615,
         ),
@@ -95,54 +105,81 @@ fn sessions_begin_and_end(rt: HostRuntime) {
 fn opens_and_closes_are_read(rt: HostRuntime) {
     was_opened(
         &rt,
-        &done(&rt, "OK 3 open 1 created 2 0", 3),
+        &done(&rt, rt.alloc(), "OK 3 open 1 created 2 0", 3),
         (1, true, 2, 0),
     );
     was_opened(
         &rt,
-        &done(&rt, "OK 9 open 4294967295 opened 9 65536", 9),
+        &done(&rt, rt.alloc(), "OK 9 open 4294967295 opened 9 65536", 9),
         (4_294_967_295, false, 9, 65_536),
     );
-    was_closed(&rt, &done(&rt, "OK 5 close kept", 5), Fate::Kept);
-    was_closed(&rt, &done(&rt, "OK 5 close pending", 5), Fate::Pending);
-    was_closed(&rt, &done(&rt, "OK 5 close gone", 5), Fate::Gone);
+    was_closed(
+        &rt,
+        &done(&rt, rt.alloc(), "OK 5 close kept", 5),
+        Fate::Kept,
+    );
+    was_closed(
+        &rt,
+        &done(&rt, rt.alloc(), "OK 5 close pending", 5),
+        Fate::Pending,
+    );
+    was_closed(
+        &rt,
+        &done(&rt, rt.alloc(), "OK 5 close gone", 5),
+        Fate::Gone,
+    );
+}
+
+#[test]
+fn bytes_are_read(rt: HostRuntime) {
+    was_read(&rt, &done(&rt, rt.alloc(), "OK 4 read 0 -", 4), b"");
+    was_read(
+        &rt,
+        &done(&rt, rt.alloc(), "OK 4 read 5 68656c6c6f", 4),
+        b"hello",
+    );
+    was_read(
+        &rt,
+        &done(&rt, rt.alloc(), "OK 4 read 3 00ff0a", 4),
+        &[0, 255, 10],
+    );
 }
 
 #[test]
 fn writes_and_lengths_are_read(rt: HostRuntime) {
-    was_written(&rt, &done(&rt, "OK 4 write 5 10", 4), 5, 10);
+    was_written(&rt, &done(&rt, rt.alloc(), "OK 4 write 5 10", 4), 5, 10);
     was_resized(
         &rt,
-        &done(&rt, "OK 7 resize 4398046511104", 7),
+        &done(&rt, rt.alloc(), "OK 7 resize 4398046511104", 7),
         4_398_046_511_104,
     );
 }
 
 #[test]
 fn words_alone_are_read(rt: HostRuntime) {
-    assert!(rt; matches!(done(&rt, "OK 6 lock", 6), Told::Locked));
-    assert!(rt; matches!(done(&rt, "OK 6 unlock", 6), Told::Unlocked));
-    assert!(rt; matches!(done(&rt, "OK 6 dispose", 6), Told::Disposed));
+    assert!(rt; matches!(done(&rt, rt.alloc(), "OK 6 lock", 6), Told::Locked));
+    assert!(rt; matches!(done(&rt, rt.alloc(), "OK 6 unlock", 6), Told::Unlocked));
+    assert!(rt; matches!(done(&rt, rt.alloc(), "OK 6 dispose", 6), Told::Disposed));
 }
 
 #[test]
 fn lines_outside_the_grammar_are_told(rt: HostRuntime) {
-    match read_line(b"ERR SYNTAX 6") {
+    match read_line(rt.alloc(), b"ERR SYNTAX 6") {
         Ok(Answer::Syntax { at }) => assert!(rt; at == 6),
         _ => panic!(rt; "syntax"),
     }
-    assert!(rt; matches!(read_line(b"ERR LINE 2097408"), Ok(Answer::Long)));
+    assert!(rt; matches!(read_line(rt.alloc(), b"ERR LINE 2097408"), Ok(Answer::Long)));
 }
 
 #[test]
 fn stops_are_told(rt: HostRuntime) {
     assert!(rt;
         matches!(
-            read_line(b"ERR NO_MEMORY"),
+            read_line(rt.alloc(), b"ERR NO_MEMORY"),
             Ok(Answer::Stop(Stop::NoMemory))
         )
     );
-    match read_line(b"ERR HISTORY_FULL 8 2 10") {
+    match read_line(rt.alloc(), b"ERR HISTORY_FULL 8 2 10") {
         Ok(
             Answer::Stop(
                 Stop::HistoryFull {

@@ -1,11 +1,12 @@
 //! Lines that no answer has.
 
+use std::alloc::Global;
 use std::process::Abort;
 use sx_answer_reader::{Unread, read_line};
 
 /// Panics unless no answer has this line.
-fn is_no_answer(rt: &impl Abort, line: &str) {
-    match read_line(line.as_bytes()) {
+fn is_no_answer(rt: &impl Abort, alloc: Global, line: &str) {
+    match read_line(alloc, line.as_bytes()) {
         Ok(_) => panic!(rt; "{line}"),
         Err(unread) => assert!(rt; unread == Unread::NoAnswer, "{line}"),
     }
@@ -13,55 +14,73 @@ fn is_no_answer(rt: &impl Abort, line: &str) {
 
 #[test]
 fn no_line_has_another_space_or_word(rt: HostRuntime) {
-    is_no_answer(&rt, "");
-    is_no_answer(&rt, "OK");
-    is_no_answer(&rt, "OK ");
-    is_no_answer(&rt, " OK 6 lock");
-    is_no_answer(&rt, "OK 6 lock ");
-    is_no_answer(&rt, "OK  6 lock");
-    is_no_answer(&rt, "OK 6  lock");
-    is_no_answer(&rt, "OK 6 lock\r");
-    is_no_answer(&rt, "OK 6 lock\n");
-    is_no_answer(&rt, "OK 6 lock 1");
+    is_no_answer(&rt, rt.alloc(), "");
+    is_no_answer(&rt, rt.alloc(), "OK");
+    is_no_answer(&rt, rt.alloc(), "OK ");
+    is_no_answer(&rt, rt.alloc(), " OK 6 lock");
+    is_no_answer(&rt, rt.alloc(), "OK 6 lock ");
+    is_no_answer(&rt, rt.alloc(), "OK  6 lock");
+    is_no_answer(&rt, rt.alloc(), "OK 6  lock");
+    is_no_answer(&rt, rt.alloc(), "OK 6 lock\r");
+    is_no_answer(&rt, rt.alloc(), "OK 6 lock\n");
+    is_no_answer(&rt, rt.alloc(), "OK 6 lock 1");
 }
 
 #[test]
 fn words_are_exact(rt: HostRuntime) {
-    is_no_answer(&rt, "ok 6 lock");
-    is_no_answer(&rt, "OK 6 Lock");
-    is_no_answer(&rt, "OK 6 locks");
-    is_no_answer(&rt, "OK 5 close");
-    is_no_answer(&rt, "OK 5 close open");
-    is_no_answer(&rt, "OK 3 open 1 made 2 0");
-    is_no_answer(&rt, "ERR");
-    is_no_answer(&rt, "ERR SYNTAX");
-    is_no_answer(&rt, "ERR NO_MEMORY 1");
-    is_no_answer(&rt, "quit");
+    is_no_answer(&rt, rt.alloc(), "ok 6 lock");
+    is_no_answer(&rt, rt.alloc(), "OK 6 Lock");
+    is_no_answer(&rt, rt.alloc(), "OK 6 locks");
+    is_no_answer(&rt, rt.alloc(), "OK 5 close");
+    is_no_answer(&rt, rt.alloc(), "OK 5 close open");
+    is_no_answer(&rt, rt.alloc(), "OK 3 open 1 made 2 0");
+    is_no_answer(&rt, rt.alloc(), "ERR");
+    is_no_answer(&rt, rt.alloc(), "ERR SYNTAX");
+    is_no_answer(&rt, rt.alloc(), "ERR NO_MEMORY 1");
+    is_no_answer(&rt, rt.alloc(), "quit");
 }
 
 #[test]
 fn numbers_have_no_leading_zeros_and_fit(rt: HostRuntime) {
-    is_no_answer(&rt, "OK 06 lock");
-    is_no_answer(&rt, "OK +6 lock");
-    is_no_answer(&rt, "OK -6 lock");
-    is_no_answer(&rt, "OK x lock");
-    is_no_answer(&rt, "OK 18446744073709551616 lock");
-    is_no_answer(&rt, "OK 9 end 4294967296");
-    is_no_answer(&rt, "OK 3 open 0 created 2 0");
-    is_no_answer(&rt, "OK 3 open 1 created 2");
-    is_no_answer(&rt, "ERR LINE 2097409");
-    is_no_answer(&rt, "ERR HISTORY_FULL 8 2");
+    is_no_answer(&rt, rt.alloc(), "OK 06 lock");
+    is_no_answer(&rt, rt.alloc(), "OK +6 lock");
+    is_no_answer(&rt, rt.alloc(), "OK -6 lock");
+    is_no_answer(&rt, rt.alloc(), "OK x lock");
+    is_no_answer(&rt, rt.alloc(), "OK 18446744073709551616 lock");
+    is_no_answer(&rt, rt.alloc(), "OK 9 end 4294967296");
+    is_no_answer(&rt, rt.alloc(), "OK 3 open 0 created 2 0");
+    is_no_answer(&rt, rt.alloc(), "OK 3 open 1 created 2");
+    is_no_answer(&rt, rt.alloc(), "ERR LINE 2097409");
+    is_no_answer(&rt, rt.alloc(), "ERR HISTORY_FULL 8 2");
+}
+
+#[test]
+fn bytes_are_counted_and_in_lower_case(rt: HostRuntime) {
+    is_no_answer(&rt, rt.alloc(), "OK 4 read 0 ");
+    is_no_answer(&rt, rt.alloc(), "OK 4 read 0");
+    is_no_answer(&rt, rt.alloc(), "OK 4 read -");
+    is_no_answer(&rt, rt.alloc(), "OK 4 read 1 -");
+    is_no_answer(&rt, rt.alloc(), "OK 4 read 0 00");
+    is_no_answer(&rt, rt.alloc(), "OK 4 read 1 0A");
+    is_no_answer(&rt, rt.alloc(), "OK 4 read 1 0a0b");
+    is_no_answer(&rt, rt.alloc(), "OK 4 read 2 0a0");
+    is_no_answer(&rt, rt.alloc(), "OK 4 read 1 0g");
+    is_no_answer(&rt, rt.alloc(), "OK 4 read 1 0a ");
 }
 
 #[test]
 fn words_and_messages_of_refusals_go_together(rt: HostRuntime) {
-    is_no_answer(&rt, "ERR BAD_NETWORK_NAME 7 no name");
-    is_no_answer(&rt, "ERR NOT_A_DIRECTORY 7 directory id 5");
-    is_no_answer(&rt, "ERR RANGE_NOT_LOCKED 7 lock handle 3.12 from 0 to 9");
-    is_no_answer(&rt, "ERR NOT_EMPTY 7 not empty id 5");
-    is_no_answer(&rt, "ERR INVALID_HANDLE 7 handle 3");
-    is_no_answer(&rt, "ERR INVALID_HANDLE 7 handle 0.1");
-    is_no_answer(&rt, "ERR INVALID_HANDLE 7 handle 3.12.1");
-    is_no_answer(&rt, "ERR INVALID_HANDLE handle 3.12");
-    is_no_answer(&rt, "ERR DISK_FULL 7 quota used 10 more 3");
+    is_no_answer(&rt, rt.alloc(), "ERR BAD_NETWORK_NAME 7 no name");
+    is_no_answer(&rt, rt.alloc(), "ERR NOT_A_DIRECTORY 7 directory id 5");
+    is_no_answer(
+        &rt,
+        rt.alloc(),
+        "ERR RANGE_NOT_LOCKED 7 lock handle 3.12 from 0 to 9",
+    );
+    is_no_answer(&rt, rt.alloc(), "ERR NOT_EMPTY 7 not empty id 5");
+    is_no_answer(&rt, rt.alloc(), "ERR INVALID_HANDLE 7 handle 3");
+    is_no_answer(&rt, rt.alloc(), "ERR INVALID_HANDLE 7 handle 0.1");
+    is_no_answer(&rt, rt.alloc(), "ERR INVALID_HANDLE 7 handle 3.12.1");
+    is_no_answer(&rt, rt.alloc(), "ERR INVALID_HANDLE handle 3.12");
+    is_no_answer(&rt, rt.alloc(), "ERR DISK_FULL 7 quota used 10 more 3");
 }
