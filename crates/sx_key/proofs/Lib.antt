@@ -3,6 +3,7 @@ pub mod Grouping
 pub mod Joining
 pub mod Lists
 pub mod Ordering
+pub mod Pads
 pub mod Passing
 pub mod Same
 pub mod Sorting

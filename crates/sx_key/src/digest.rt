@@ -1,8 +1,7 @@
 //! HMAC with SHA-256.
 
-ghost use Rattle.std.specs.Prelude.{◌≡◌, ◌++◌, ◌≤◌, List, ℕ, map, replicate, bit_xor, length};
-ghost use Rattle.sha2.specs.Hashers.{Holds256};
-ghost use Rattle.sx_key.specs.Digest.{hmac as hmac_of, padded_digest, block_hmac};
+ghost use Rattle.std.specs.Prelude.{◌≡◌, ◌≤◌, length};
+ghost use Rattle.sx_key.specs.Digest.{hmac as hmac_of, padded_digest, padded_key, block_hmac};
 
 use sha2::{Digest, Sha256};
 
@@ -32,26 +31,19 @@ fn padded_digest(pad: u8, key: &[u8], text: &[u8]) -> [u8; 32]
     ensures { result ≡ padded_digest pad key.now text.now }
 {
     let mut hasher = Sha256::new();
-    feed_key(&mut hasher, pad, key);
-    feed_pad(&mut hasher, pad, 64 - key.len());
+    hasher.update(&padded_key(pad, key));
     hasher.update(text);
     hasher.finalize()
 }
 
-/// Feeds each byte of a key, combined with the pad's.
-fn feed_key(hasher: &mut Sha256, pad: u8, key: &[u8])
-    ensures { (m : List ℕ) → Holds256 hasher.old m → Holds256 hasher.new (m ++ map (λ b. bit_xor b pad) key.now) }
+/// A block of a key and the zeros behind it, each byte combined with the pad's.
+fn padded_key(pad: u8, key: &[u8]) -> [u8; 64]
+    requires { length key.now ≤ 64 }
+    ensures { result ≡ padded_key pad key.now }
 {
-    for b in key {
-        hasher.update(&[*b ^ pad]);
+    let mut block = [pad; 64];
+    for index in 0..key.len() {
+        block[index] = key[index] ^ pad;
     }
-}
-
-/// Feeds the zeros behind a key, combined with the pad's byte.
-fn feed_pad(hasher: &mut Sha256, pad: u8, count: usize)
-    ensures { (m : List ℕ) → Holds256 hasher.old m → Holds256 hasher.new (m ++ replicate count pad) }
-{
-    for _ in 0..count {
-        hasher.update(&[pad]);
-    }
+    block
 }
