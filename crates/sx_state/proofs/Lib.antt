@@ -2,5 +2,8 @@ pub mod Changes
 pub mod Rest
 pub mod ByName
 pub mod Named
+pub mod Runs
+pub mod RowOrders
+pub mod LockRuns
 pub mod HeldLaws
 pub mod InScope

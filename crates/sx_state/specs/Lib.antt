@@ -1,4 +1,5 @@
 pub mod State
+pub mod Guards
 pub mod Spots
 pub mod Refused
 pub mod Changed

@@ -2,7 +2,7 @@
 use Rattle.sx_spec.specs.Account.{Store}
 use Rattle.sx_state.specs.declared.state.State.TheInside.{Inside}
 
--- the store of the definitions: the vectors as lists, and the shares by their numbers
+-- the store of the definitions: the vectors as lists, the locks in their order, and the shares by their numbers
 abbrev pub store_of : Inside → Store
 store_of s = record {
   started = s.started;
@@ -11,5 +11,5 @@ store_of s = record {
   made = s.made;
   shares = s.shares.entries;
   opens = s.opens.items;
-  locks = s.locks.items;
+  locks = s.locks;
 }

@@ -1,6 +1,5 @@
 //! How the leases, the opens and the locks refuse what is asked of them, and the one order of all refusals.
 ghost use Rattle.std.specs.Prelude.{◌≡◌, find};
-ghost use Rattle.std.specs.List.{list_any};
 ghost use Rattle.std.specs.Option.{option_copied};
 ghost use Rattle.sx_guard.specs.Locks.{is_held_by};
 ghost use Rattle.sx_spec.specs.Checks.{asks_refusal, first_check, forbids_touch, is_leased, lease_refusal};
@@ -128,7 +127,7 @@ fn forbids_touch(by: &Option<HandleId>, touch: Touch, held: &Held) -> bool
 }
 
 /// Whether a lock forbids what is asked of the locks.
-fn lock_forbids(ask: &LockAsk, lock: &Lock) -> bool
+pub(crate) fn lock_forbids(ask: &LockAsk, lock: &Lock) -> bool
     ensures { result ≡ lock_forbids ask.now lock.now }
 {
     match ask {
@@ -167,20 +166,6 @@ fn forbidding_open(opens: &[Open], ask: OpenAsk) -> Option<&Open>
     opens.iter().find(|held| open_forbids(ask, held))
 }
 
-/// The first lock that forbids.
-fn forbidding_lock<'a>(locks: &'a [Lock], ask: &LockAsk) -> Option<&'a Lock>
-    ensures { option_copied result ≡ find (lock_forbids ask.now) locks.now }
-{
-    locks.iter().find(|lock| lock_forbids(ask, lock))
-}
-
-/// Whether this very lock is held.
-fn has_lock(locks: &[Lock], old: &Lock) -> bool
-    ensures { result ≡ list_any (same_lock old.now) locks.now }
-{
-    locks.iter().any(|lock| same_lock(old, lock))
-}
-
 /// The refusal for a limit that is met.
 fn limit_refusal(limit: Limit) -> Refusal
     ensures { result ≡ limit_refusal limit }
@@ -214,7 +199,7 @@ impl State {
     {
         match ask {
             LockAsk::OldLock(old) => {
-                if !has_lock(&self.locks, old) {
+                if !self.locks.has(old) {
                     return Some(Refusal::NotLocked);
                 }
                 None
@@ -230,7 +215,7 @@ impl State {
         if let LockAsk::AnyLocks = ask {
             return None;
         }
-        match forbidding_lock(&self.locks, ask) {
+        match self.locks.forbidding(ask) {
             Some(lock) => Some(Refusal::Locked { held: lock.held }),
             None => self.missing_lock(ask),
         }

@@ -7,7 +7,7 @@ ghost use Rattle.sx_tree.specs.Tree.{slot_at};
 
 use crate::state::State;
 use crate::trees::fate_of;
-use sx_call::{Fate, Lock, Open};
+use sx_call::{Fate, Open};
 use sx_guard::HandleId;
 use sx_tree::Tree;
 
@@ -16,13 +16,6 @@ fn drop_open(opens: &mut Vec<Open>, handle: HandleId)
     ensures { opens.new.items ≡ filter (λ o. not (same_handle handle o.handle)) opens.old.items }
 {
     opens.retain(|open| handle != open.handle);
-}
-
-/// Takes the locks of a handle away.
-fn drop_locks(locks: &mut Vec<Lock>, handle: HandleId)
-    ensures { locks.new.items ≡ filter (λ l. not (same_handle handle l.held.handle)) locks.old.items }
-{
-    locks.retain(|lock| handle != lock.held.handle);
 }
 
 /// Whether the node of an id is to go with its last open: it is pending, or the open is marked for delete on close and
@@ -45,7 +38,7 @@ impl State {
         ensures { self.new ≡ take_open handle self.old }
     {
         drop_open(&mut self.opens, handle);
-        drop_locks(&mut self.locks, handle);
+        self.locks.take_of(handle);
     }
 
     /// Whether the node of an open is to go with its last open.

@@ -8,6 +8,7 @@ mod facts;
 mod holding;
 mod leases;
 mod listing;
+mod locked;
 mod needs;
 mod opens;
 mod places;

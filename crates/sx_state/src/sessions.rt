@@ -1,16 +1,10 @@
 //! Sessions that start and end, and byte-range locks.
-ghost use Rattle.std.specs.Prelude.{◌≡◌, ◌+◌, ◌<◌, ◌≤◌, ◌^◌, OnErr, OnOk, filter, length, not};
-ghost use Rattle.std.specs.Prelude.{position};
-ghost use Rattle.std.specs.List.{position_or_len};
-ghost use Rattle.sx_guard.specs.Ordered.{insert_by, remove_first};
+ghost use Rattle.std.specs.Prelude.{◌≡◌, ◌+◌, ◌<◌, ◌^◌, OnErr, OnOk, filter, not};
 ghost use Rattle.sx_spec.specs.Account.{is_session};
-ghost use Rattle.sx_spec.specs.Changes.{comes_before, put_lock, put_session, take_lock, take_session};
-ghost use Rattle.sx_spec.specs.Checks.{same_lock};
+ghost use Rattle.sx_spec.specs.Changes.{put_lock, put_session, take_lock, take_session};
 
-use crate::asks::same_lock;
 use crate::state::State;
 use sx_call::{Live, Lock};
-use sx_guard::Ordered;
 use sx_memory::NoMemory;
 
 /// Takes a session away.
@@ -18,55 +12,6 @@ fn drop_session(sessions: &mut Vec<Live>, session: u32)
     ensures { sessions.new.items ≡ filter (λ l. not (is_session session l)) sessions.old.items }
 {
     sessions.retain(|live| live.session != session);
-}
-
-/// Whether a lock comes before another: by node, then handle, start and end.
-fn comes_before(a: &Lock, b: &Lock) -> bool
-    ensures { result ≡ comes_before a.now b.now }
-{
-    a.node < b.node || a.node == b.node && a.held.comes_before(&b.held)
-}
-
-/// The place of the first lock before which one comes, the end where there is none.
-fn place_behind(locks: &[Lock], added: &Lock) -> usize
-    ensures place { result ≡ position_or_len (comes_before added.now) locks.now }
-    ensures within { result ≤ length locks.now }
-{
-    locks
-        .iter()
-        .position(|lock| comes_before(added, lock))
-        .unwrap_or(locks.len())
-}
-
-/// Puts one more lock into its place.
-fn insert_lock(locks: &mut Vec<Lock>, added: Lock) -> Result<(), NoMemory>
-    ensures ok { OnOk result (locks.new.items ≡ insert_by comes_before added locks.old.items) }
-    ensures err { OnErr result (locks.new.items ≡ locks.old.items) }
-{
-    let place = place_behind(locks, &added);
-    match locks.insert(place, added) {
-        Ok(()) => Ok(()),
-        Err(_) => Err(NoMemory),
-    }
-}
-
-/// The place of a lock.
-fn place_of_lock(locks: &[Lock], old: &Lock) -> Option<usize>
-    ensures { result ≡ position (same_lock old.now) locks.now }
-{
-    locks.iter().position(|lock| same_lock(old, lock))
-}
-
-/// Takes one lock away.
-fn drop_lock(locks: &mut Vec<Lock>, old: &Lock)
-    ensures { locks.new.items ≡ remove_first (same_lock old.now) locks.old.items }
-{
-    match place_of_lock(locks, old) {
-        Some(place) => {
-            let _ = locks.remove(place);
-        }
-        None => {}
-    }
 }
 
 impl State {
@@ -108,7 +53,7 @@ impl State {
         ensures ok { OnOk result (self.new ≡ put_lock added self.old) }
         ensures err { OnErr result (self.new ≡ self.old) }
     {
-        insert_lock(&mut self.locks, added)
+        self.locks.put(added)
     }
 
     /// Takes one lock away. It takes no memory.
@@ -116,6 +61,6 @@ impl State {
     pub fn take_lock(&mut self, old: &Lock)
         ensures { self.new ≡ take_lock old.now self.old }
     {
-        drop_lock(&mut self.locks, old);
+        self.locks.take(old);
     }
 }

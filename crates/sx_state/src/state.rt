@@ -2,10 +2,11 @@
 ghost use Rattle.std.specs.Prelude.{◌≡◌, length};
 ghost use Rattle.sx_spec.specs.Account.{empty};
 
+use crate::locked::Locked;
 use std::alloc::Global;
 use std::collections::BTreeMap;
 use std::marker::Model;
-use sx_call::{Live, Lock, Open};
+use sx_call::{Live, Open};
 use sx_tree::Share;
 
 /// All that a call can change. Contracts see the store of the definitions.
@@ -18,7 +19,7 @@ pub struct State {
     pub(crate) made: u32,
     pub(crate) shares: BTreeMap<u32, Share>,
     pub(crate) opens: Vec<Open>,
-    pub(crate) locks: Vec<Lock>,
+    pub(crate) locks: Locked,
 }
 
 impl Model for State {
@@ -44,7 +45,7 @@ impl State {
             made: 0,
             shares: BTreeMap::new(alloc),
             opens: Vec::new(alloc),
-            locks: Vec::new(alloc),
+            locks: Locked::new(alloc),
         }
     }
 

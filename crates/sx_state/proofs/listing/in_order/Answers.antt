@@ -1,11 +1,10 @@
-use Rattle.std.proofs.Common.{Bor, ◌≡◌, ◌∙◌, List, ap, map, reverse, rules, tests}
+use Rattle.std.proofs.Common.{Bor, ◌≡◌, ◌∙◌, ap, map, reverse, rules, tests}
 use Rattle.std.specs.Ordering.{is_lt}
 use Rattle.std.proofs.lemmas.Cmp.{nat_list_cmp_total}
 use Rattle.std.proofs.lemmas.Fn.{always_returns_same}
 use Rattle.std.proofs.lemmas.List.Sorted.{ranks_by}
 use Rattle.sx_tree.specs.declared.share.Share.{Share}
 use Rattle.sx_spec.specs.Pages.{name_before}
-use Rattle.sx_state.specs.Named.{in_order_by}
 use Rattle.sx_state.proofs.ByName.{sorted_is, in_order-map}
 use Rattle.sx_state.proofs.listing.in_order.Goals as goal
 

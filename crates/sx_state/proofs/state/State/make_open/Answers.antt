@@ -28,5 +28,5 @@ returns-clause-ok c =
       made = c.self.inside.made;
       shares = c.in-Ok-make_in.ensures.ok i;
       opens = opens i;
-      locks = c.self.inside.locks.items;
+      locks = c.self.inside.locks;
     })

@@ -2,7 +2,7 @@ use Rattle.std.proofs.Common.{◌≡◌, insert, ap, sym, ◌∙◌}
 use Rattle.std.specs.List.{position_or_len}
 use Rattle.sx_guard.proofs.Places.{insert_by-is}
 use Rattle.sx_spec.specs.Changes.{comes_before}
-use Rattle.sx_state.proofs.sessions.insert_lock.Goals as goal
+use Rattle.sx_state.proofs.locked.insert_lock.Goals as goal
 
 pub returns-in-Ok-clause-ok : goal.returns-in-Ok-clause-ok
 returns-in-Ok-clause-ok c =

@@ -1,7 +1,7 @@
 use Rattle.std.proofs.Common.{◌≡◌, Some, None, position, sym, ◌∙◌}
 use Rattle.sx_spec.specs.Checks.{same_lock}
 use Rattle.sx_guard.proofs.Places.{place-None, remove-place, remove_first-none}
-use Rattle.sx_state.proofs.sessions.drop_lock.Goals as goal
+use Rattle.sx_state.proofs.locked.drop_lock.Goals as goal
 
 pub returns-in-Some : goal.returns-in-Some
 returns-in-Some c =
