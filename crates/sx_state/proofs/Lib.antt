@@ -5,5 +5,8 @@ pub mod Named
 pub mod Runs
 pub mod RowOrders
 pub mod LockRuns
+pub mod Beside
+pub mod OpenRuns
+pub mod GuardLaws
 pub mod HeldLaws
 pub mod InScope

@@ -1,5 +1,5 @@
 -- The locks of the account in their order: what puts and takes keep, and where a lock and a node's locks stand.
-use Rattle.std.proofs.Common.{◌≡◌, ◌∙◌, sym, ap, refl, ℕ, ◌+◌, ◌≤◌, nat_lt, ◌==◌, ◌&&◌, ◌||◌, Bool, true, false, not, List, Option, Some, None, take, drop, filter, find, length, position, AllPairs, arith}
+use Rattle.std.proofs.Common.{◌≡◌, ◌∙◌, sym, ap, refl, ℕ, ◌+◌, ◌≤◌, nat_lt, ◌==◌, ◌&&◌, ◌||◌, Bool, true, false, not, List, Some, None, take, drop, filter, find, length, position, AllPairs, arith}
 use Rattle.std.specs.List.{list_any, prefix_len, position_or_len}
 use Rattle.std.specs.List.Sorted.{IsPartitionedBy}
 use Rattle.std.proofs.lemmas.Bool.Decides.{nat_tests}
@@ -13,7 +13,7 @@ use Rattle.sx_spec.specs.declared.checks.LockAsk.TheVariants.{AnyLocks, Touching
 use Rattle.sx_spec.specs.Changes.{comes_before}
 use Rattle.sx_spec.specs.Checks.{lock_forbids, same_lock}
 use Rattle.sx_state.specs.Guards.{AreLocks, asked_node, is_lock_on}
-use Rattle.sx_state.proofs.Runs.{parted, run_is, run_ends, run_place, any_within, find_within, Rises, key_run, key_ends, below_parts, upto_parts}
+use Rattle.sx_state.proofs.Runs.{parted, run_is, run_ends, run_place, position_at, any_within, find_within, Rises, key_run, key_ends, below_parts, upto_parts}
 use Rattle.sx_state.proofs.RowOrders.{node_first, nodes_rise, node_lock_one_way, past_by, behind_by, front_by}
 
 differ : true ≡ false → ⊥
@@ -184,15 +184,12 @@ any_beside x ls kept =
     (in_front x) (within x) (in_back x) (low x) (high x) ls kept))
     ∙ any_within (beside x) (same_lock x) (weak x) ls
 
-place_at : (x : Lock) (ls : List Lock) (n : ℕ) → nat_lt (position_or_len (same_lock x) ls) (length ls) ≡ true → position_or_len (same_lock x) ls ≡ n → position (same_lock x) ls ≡ Some n
-place_at x ls n lt e = rw lt (ap (λ (k : ℕ). let o : Option ℕ = Some k in o) e)
-
 -- a lock's place among those beside it tells its place among all
 pub lock_there : (x : Lock) (ls : List Lock) (i : ℕ) → AreLocks ls → position (same_lock x) (run_beside x ls) ≡ Some i
     → position (same_lock x) ls ≡ Some (prefix_len (λ l. comes_before l x) ls + i)
 lock_there x ls i kept e =
     let is = place-Some (same_lock x) (run_beside x ls) i e in
-    place_at x ls (prefix_len (λ l. comes_before l x) ls + i)
+    position_at (same_lock x) ls (prefix_len (λ l. comes_before l x) ls + i)
     (first_place (same_lock x) ls ∙ sym (any_beside x ls kept) ∙ is.0)
     (run_place (λ l. comes_before l x) (λ l. not (comes_before x l)) (same_lock x) (λ l f. ((in_front x l f).0, not_same x l f)) ls is.0
     ∙ ap (λ (k : ℕ). prefix_len (λ l. comes_before l x) ls + k) (sym is.1))

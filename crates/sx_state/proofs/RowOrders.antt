@@ -1,11 +1,8 @@
 -- The orders in which locks stand by node, and opens by handle or by node and handle: what a search by halving and an insert ask of them.
-use Rattle.std.proofs.Common.{◌≡◌, ◌∙◌, sym, ap, ℕ, ◌≤◌, ◌<◌, nat_lt, ◌==◌, ◌&&◌, ◌||◌, Bool, true, false, List, Option, Some, None, AllPairs, get_or, length, position, refl, subst, arith}
-use Rattle.std.specs.List.{list_any, prefix_len, position_or_len}
+use Rattle.std.proofs.Common.{◌≡◌, sym, ℕ, ◌≤◌, nat_lt, ◌==◌, ◌&&◌, ◌||◌, Bool, true, false, refl, arith}
 use Rattle.std.proofs.lemmas.Bool.Decides.{nat_tests}
 use Rattle.sx_guard.specs.Handle.{Handle, same_handle, handle_before}
 use Rattle.sx_guard.specs.Locks.{RangeLock, lock_before}
-use Rattle.sx_guard.proofs.Places.{first_place}
-use Rattle.sx_state.proofs.Runs.{place_there, absent_there}
 
 differ : true ≡ false → ⊥
 differ e = cc
@@ -66,32 +63,6 @@ not_in_front h k e = grind (arith, nat_tests)
 pub not_behind : (h k l : Handle) → handle_before k l ≡ true → handle_before k h ≡ false → same_handle h l ≡ false
 not_behind h k l e f = grind (arith, nat_tests)
 
--- The place of a handle among items in strict order of handle.
-module _ {X : Type 0} (handle : X → Handle) (h : Handle) where
-  abbrev pub InOrder : X → X → Type 0
-  InOrder a b = handle_before (handle a) (handle b) ≡ true
-
-  abbrev pub in_front : X → Bool
-  in_front x = handle_before (handle x) h
-
-  abbrev pub is_of : X → Bool
-  is_of x = same_handle h (handle x)
-
-  position_by : (xs : List X) (at : ℕ) → nat_lt (position_or_len is_of xs) (length xs) ≡ true → position_or_len is_of xs ≡ at → position is_of xs ≡ Some at
-  position_by xs at lt e = rw lt (ap (λ (k : ℕ). let o : Option ℕ = Some k in o) e)
-
-  -- it is there
-  pub handle_there : (xs : List X) (d : X) → AllPairs InOrder xs → prefix_len in_front xs < length xs → is_of (get_or xs (prefix_len in_front xs) d) ≡ true
-      → position is_of xs ≡ Some (prefix_len in_front xs)
-  handle_there xs d pairs lt is =
-      let e : position_or_len is_of xs ≡ prefix_len in_front xs =
-      place_there InOrder in_front is_of (λ x f. not_in_front h (handle x) f) (λ a b r f. not_behind h (handle a) (handle b) r f) xs d pairs lt is in
-      position_by xs (prefix_len in_front xs) (let l : position_or_len is_of xs < length xs = subst (λ k. k < length xs) (sym e) lt in grind (arith, nat_tests)) e
-
-  -- it is nowhere
-  pub handle_absent : (xs : List X) (d : X) → AllPairs InOrder xs → (prefix_len in_front xs < length xs → is_of (get_or xs (prefix_len in_front xs) d) ≡ false)
-      → position is_of xs ≡ None
-  handle_absent xs d pairs is =
-      let none : list_any is_of xs ≡ false =
-      absent_there InOrder in_front is_of (λ x f. not_in_front h (handle x) f) (λ a b r f. not_behind h (handle a) (handle b) r f) xs d pairs is in
-      rw (first_place is_of xs ∙ none) refl
+-- of two items that differ in node or handle one comes first
+pub nodes_total : (n m : ℕ) (h k : Handle) → (m == n && same_handle h k) ≡ false → node_first n m (handle_before h k) ≡ false → node_first m n (handle_before k h) ≡ true
+nodes_total n m h k e f = grind (arith, nat_tests)

@@ -1,11 +1,12 @@
 -- What binary search finds in a list that is in order: a place, a run of items, the one item of a key.
-use Rattle.std.proofs.Common.{◌≡◌, ◌∙◌, sym, ap, refl, ℕ, suc, zero, ◌+◌, ◌-◌, ◌<◌, ◌≤◌, nat_lt, ◌==◌, Bool, true, false, not, cond, ◌||◌, if◌then◌else◌, List, [], ◌∷◌, Some, take, drop, filter, find, length, get_or, All, AllPairs, subst, arith}
+use Rattle.std.proofs.Common.{◌≡◌, ◌∙◌, sym, ap, refl, ℕ, suc, zero, ◌+◌, ◌-◌, ◌<◌, ◌≤◌, nat_lt, ◌==◌, Bool, true, false, not, cond, ◌||◌, if◌then◌else◌, List, [], ◌∷◌, Option, Some, None, take, drop, position, filter, find, length, get_or, All, AllPairs, subst, arith}
 use Rattle.std.specs.List.{list_any, prefix_len, position_or_len}
 use Rattle.std.specs.List.Sorted.{IsPartitionedBy, IsPartitionPoint}
 use Rattle.std.proofs.lemmas.Bool.Decides.{nat_tests}
 use Rattle.std.proofs.lemmas.List.{drop-take}
 use Rattle.std.proofs.lemmas.List.Elements.{All-head, All-tail, All-weaker}
 use Rattle.sx_guard.proofs.Pairs.{AllPairs-head, AllPairs-tail}
+use Rattle.sx_guard.proofs.Places.{first_place}
 
 differ : true ≡ false → ⊥
 differ e = cc
@@ -146,6 +147,10 @@ pub any_within : {X : Type 0} (keep test : X → Bool) → ((x : X) → test x �
 any_within keep test weak [] = refl
 any_within keep test weak (x ∷ xs) = any_by keep test x xs (keep x) (test x) refl refl (weak x) (any_within keep test weak xs)
 
+-- a place that is within the list
+pub position_at : {X : Type 0} (test : X → Bool) (xs : List X) (n : ℕ) → nat_lt (position_or_len test xs) (length xs) ≡ true → position_or_len test xs ≡ n → position test xs ≡ Some n
+position_at test xs n lt e = rw lt (ap (λ (k : ℕ). let o : Option ℕ = Some k in o) e)
+
 -- The one item of a key in a list that is strictly in order.
 module _ {X : Type 0} (R : X → X → Type 0) (below test : X → Bool)
     (front : (x : X) → below x ≡ true → test x ≡ false)
@@ -179,6 +184,23 @@ module _ {X : Type 0} (R : X → X → Type 0) (below test : X → Bool)
     pub absent_there : (xs : List X) (d : X) → AllPairs R xs → (prefix_len below xs < length xs → test (get_or xs (prefix_len below xs) d) ≡ false) → list_any test xs ≡ false
     absent_there [] d pairs is = refl
     absent_there (x ∷ xs) d pairs is = absent_by x xs d (below x) refl pairs (λ p i. absent_there xs d p i) is
+
+    -- it is there
+    pub found_there : (xs : List X) (d : X) → AllPairs R xs → prefix_len below xs < length xs → test (get_or xs (prefix_len below xs) d) ≡ true
+        → position test xs ≡ Some (prefix_len below xs)
+    found_there xs d pairs lt is =
+        let e : position_or_len test xs ≡ prefix_len below xs = place_there xs d pairs lt is in
+        position_at test xs (prefix_len below xs) (let l : position_or_len test xs < length xs = subst (λ k. k < length xs) (sym e) lt in grind (arith, nat_tests)) e
+
+    -- it is nowhere
+    pub found_nowhere : (xs : List X) (d : X) → AllPairs R xs → (prefix_len below xs < length xs → test (get_or xs (prefix_len below xs) d) ≡ false)
+        → position test xs ≡ None
+    found_nowhere xs d pairs is = rw (first_place test xs ∙ absent_there xs d pairs is) refl
+
+    -- all of the list stands in front of it
+    pub found_past : (xs : List X) → AllPairs R xs → length xs ≤ prefix_len below xs → position test xs ≡ None
+    found_past [] pairs le = refl
+    found_past (x ∷ xs) pairs le = found_nowhere (x ∷ xs) x pairs (λ lt. absurd (omega (arith, le, lt)))
 
 -- The run of a number, where numbers rise.
 module _ {X : Type 0} (key : X → ℕ) (k : ℕ) where

@@ -2,7 +2,8 @@
 use Rattle.sx_spec.specs.Account.{Store}
 use Rattle.sx_state.specs.declared.state.State.TheInside.{Inside}
 
--- the store of the definitions: the vectors as lists, the locks in their order, and the shares by their numbers
+-- the store of the definitions: the sessions as a list, the opens and the locks in their orders, and the shares by
+-- their numbers
 abbrev pub store_of : Inside → Store
 store_of s = record {
   started = s.started;
@@ -10,6 +11,6 @@ store_of s = record {
   next_id = s.next_id;
   made = s.made;
   shares = s.shares.entries;
-  opens = s.opens.items;
+  opens = s.opens;
   locks = s.locks;
 }

@@ -1,11 +1,9 @@
 //! How the leases, the opens and the locks refuse what is asked of them, and the one order of all refusals.
-ghost use Rattle.std.specs.Prelude.{◌≡◌, find};
-ghost use Rattle.std.specs.Option.{option_copied};
+ghost use Rattle.std.specs.Prelude.{◌≡◌};
 ghost use Rattle.sx_guard.specs.Locks.{is_held_by};
 ghost use Rattle.sx_spec.specs.Checks.{asks_refusal, first_check, forbids_touch, is_leased, lease_refusal};
 ghost use Rattle.sx_spec.specs.Checks.{limit_refusal, lock_forbids, lock_refusal, may_change, missing_lock};
-ghost use Rattle.sx_spec.specs.Checks.{open_forbids, open_refusal};
-ghost use Rattle.sx_spec.specs.Checks.{refusal_of_answer, refusal_of_check, same_lock};
+ghost use Rattle.sx_spec.specs.Checks.{open_refusal, refusal_of_answer, refusal_of_check, same_lock};
 
 use crate::state::State;
 use sx_call::{Lock, Open, Refusal};
@@ -48,7 +46,7 @@ fn is_leased(state: LeaseState) -> bool
 }
 
 /// Whether an access may change a node.
-fn may_change(access: Access) -> bool
+pub(crate) fn may_change(access: Access) -> bool
     ensures { result ≡ may_change access }
 {
     access.write || access.delete
@@ -77,27 +75,13 @@ fn lease_refusal(ask: LeaseAsk) -> Option<Refusal>
 }
 
 /// An open as its node's share modes see it.
-fn opened(held: &Open) -> Opened
+pub(crate) fn opened(held: &Open) -> Opened
     ensures { result ≡ record { handle = held.now.handle; access = held.now.access; mode = held.now.mode } }
 {
     Opened {
         handle: held.handle,
         access: held.access,
         mode: held.mode,
-    }
-}
-
-/// Whether an open forbids what is asked of the opens.
-fn open_forbids(ask: OpenAsk, held: &Open) -> bool
-    ensures { result ≡ open_forbids ask held.now }
-{
-    match ask {
-        OpenAsk::AnyOpens => false,
-        OpenAsk::Beside { id, access, mode } => {
-            held.node == id && opened(held).forbids(access, mode)
-        }
-        OpenAsk::NoneIn { number } => held.share == number,
-        OpenAsk::NoneChanging { id } => held.node == id && may_change(held.access),
     }
 }
 
@@ -159,13 +143,6 @@ pub(crate) fn same_lock(a: &Lock, b: &Lock) -> bool
         && a.held.exclusive == b.held.exclusive
 }
 
-/// The first open that forbids.
-fn forbidding_open(opens: &[Open], ask: OpenAsk) -> Option<&Open>
-    ensures { option_copied result ≡ find (open_forbids ask) opens.now }
-{
-    opens.iter().find(|held| open_forbids(ask, held))
-}
-
 /// The refusal for a limit that is met.
 fn limit_refusal(limit: Limit) -> Refusal
     ensures { result ≡ limit_refusal limit }
@@ -185,10 +162,8 @@ impl State {
         if let OpenAsk::AnyOpens = ask {
             return None;
         }
-        match forbidding_open(&self.opens, ask) {
-            Some(held) => Some(Refusal::Shared {
-                handle: held.handle,
-            }),
+        match self.opens.forbidding(ask) {
+            Some(handle) => Some(Refusal::Shared { handle }),
             None => None,
         }
     }

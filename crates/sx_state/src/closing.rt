@@ -1,6 +1,5 @@
 //! Closing handles: the open goes with its locks, and its node where it is to go with its last open.
-ghost use Rattle.std.specs.Prelude.{◌≡◌, filter, not};
-ghost use Rattle.sx_guard.specs.Handle.{same_handle};
+ghost use Rattle.std.specs.Prelude.{◌≡◌};
 ghost use Rattle.sx_spec.specs.Account.{slot_of_open};
 ghost use Rattle.sx_spec.specs.Changes.{close, close_all, close_fate, goes_at_close, take_open};
 ghost use Rattle.sx_tree.specs.Tree.{slot_at};
@@ -10,13 +9,6 @@ use crate::trees::fate_of;
 use sx_call::{Fate, Open};
 use sx_guard::HandleId;
 use sx_tree::Tree;
-
-/// Takes the open of a handle away.
-fn drop_open(opens: &mut Vec<Open>, handle: HandleId)
-    ensures { opens.new.items ≡ filter (λ o. not (same_handle handle o.handle)) opens.old.items }
-{
-    opens.retain(|open| handle != open.handle);
-}
 
 /// Whether the node of an id is to go with its last open: it is pending, or the open is marked for delete on close and
 /// the node is a file or an empty directory.
@@ -37,7 +29,7 @@ impl State {
     pub fn take_open(&mut self, handle: HandleId)
         ensures { self.new ≡ take_open handle self.old }
     {
-        drop_open(&mut self.opens, handle);
+        self.opens.take(handle);
         self.locks.take_of(handle);
     }
 

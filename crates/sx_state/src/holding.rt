@@ -1,38 +1,18 @@
 //! The open handles of a session, closed together.
 ghost use Rattle.std.specs.Prelude.{◌≡◌, ◌≤◌, AllPairs, filter, find, length, true};
-ghost use Rattle.std.specs.Option.{option_copied};
 ghost use Rattle.sx_guard.specs.Handle.{handle_before};
 ghost use Rattle.sx_spec.specs.Account.{is_held_by};
 ghost use Rattle.sx_spec.specs.Changes.{close_all};
 ghost use Rattle.sx_state.specs.Holding.{close_found};
 
 use crate::state::State;
-use sx_call::Open;
-
-/// The first open that a session holds.
-fn first_held(opens: &[Open], session: u32) -> Option<&Open>
-    ensures { option_copied result ≡ find (is_held_by session) opens.now }
-{
-    opens.iter().find(|held| held.handle.session == session)
-}
-
-/// How many opens a session holds.
-fn count_held(opens: &[Open], session: u32) -> usize
-    ensures count { result ≡ length (filter (is_held_by session) opens.now) }
-    ensures few { result ≤ length opens.now }
-{
-    opens
-        .iter()
-        .filter(|held| held.handle.session == session)
-        .count()
-}
 
 impl State {
     /// Closes the first handle that a session holds, if it holds any.
     fn close_first(&mut self, session: u32)
         ensures { self.new ≡ close_found (find (is_held_by session) self.old.opens) self.old }
     {
-        let Some(held) = first_held(&self.opens, session) else {
+        let Some(held) = self.opens.first_of(session) else {
             return;
         };
         let held = *held;
@@ -46,7 +26,7 @@ impl State {
         ensures count { result ≡ length (filter (is_held_by session) self.old.opens) }
         ensures few { result ≤ length self.old.opens }
     {
-        let count = count_held(&self.opens, session);
+        let count = self.opens.count_of(session);
         for _ in 0..count {
             self.close_first(session);
         }

@@ -2,9 +2,11 @@
 #![tactic(auto)]
 
 mod asks;
+mod by_node;
 mod checks;
 mod closing;
 mod facts;
+mod handles;
 mod holding;
 mod leases;
 mod listing;

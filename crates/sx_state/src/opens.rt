@@ -1,13 +1,11 @@
 //! The open handles and the sessions to which they are granted.
-ghost use Rattle.std.specs.Prelude.{◌≡◌, ◌+◌, ◌<◌, ◌≤◌, ◌-◌, ◌^◌, IfSome, OnErr, OnOk, filter, find, insert, length};
-ghost use Rattle.std.specs.Prelude.{not, option_map, position, unwrap_or, vec_capacity, vec_len};
-ghost use Rattle.std.specs.List.{AllByRecursion, list_any, position_or_len};
+ghost use Rattle.std.specs.Prelude.{◌≡◌, ◌+◌, ◌<◌, ◌-◌, ◌^◌, IfSome, OnErr, OnOk, find, length, option_map, position};
+ghost use Rattle.std.specs.Prelude.{unwrap_or};
+ghost use Rattle.std.specs.List.{AllByRecursion};
 ghost use Rattle.std.specs.Option.{option_copied};
 ghost use Rattle.sx_base.specs.Entries.{change};
-ghost use Rattle.sx_guard.specs.Handle.{same_handle};
-ghost use Rattle.sx_guard.specs.Ordered.{insert_by};
-ghost use Rattle.sx_spec.specs.Account.{granted_to, is_on, is_opened, is_session, opens_on, peer_of};
-ghost use Rattle.sx_spec.specs.Changes.{change_open, grant, make_node, open_before, put_open};
+ghost use Rattle.sx_spec.specs.Account.{granted_to, is_opened, is_session, opens_on, peer_of};
+ghost use Rattle.sx_spec.specs.Changes.{change_open, grant, make_node, put_open};
 ghost use Rattle.sx_spec.specs.SessionCalls.{with_mark};
 ghost use Rattle.sx_state.specs.Ids.{CanGrant, IsFresh};
 
@@ -56,73 +54,11 @@ fn holder_of(held: &Open) -> u32
     held.handle.session
 }
 
-/// Whether an open is on a node.
-fn any_on(opens: &[Open], id: u64) -> bool
-    ensures { result ≡ list_any (is_on id) opens.now }
+/// The handle of an open.
+fn handle_of(held: &Open) -> HandleId
+    ensures { result ≡ held.now.handle }
 {
-    opens.iter().any(|open| open.node == id)
-}
-
-/// How many opens are on a node.
-fn count_on(opens: &[Open], id: u64) -> u64
-    ensures { result ≡ length (filter (is_on id) opens.now) }
-{
-    opens.iter().filter(|open| open.node == id).count() as u64
-}
-
-/// The place of the first open behind a handle, the end where there is none.
-fn place_behind(opens: &[Open], added: &Open) -> usize
-    ensures place { result ≡ position_or_len (open_before added.now) opens.now }
-    ensures within { result ≤ length opens.now }
-{
-    opens
-        .iter()
-        .position(|open| added.handle < open.handle)
-        .unwrap_or(opens.len())
-}
-
-/// Puts one more open into its place. Its room is there.
-fn insert_in_room(opens: &mut Vec<Open>, added: Open)
-    requires { vec_len opens.old < vec_capacity opens.old }
-    ensures { opens.new.items ≡ insert_by open_before added opens.old.items }
-{
-    let place = place_behind(opens, &added);
-    match opens.insert(place, added) {
-        Ok(()) => {}
-        Err(_) => unreachable!(),
-    }
-}
-
-/// Puts one more open into its place.
-fn insert_open(opens: &mut Vec<Open>, added: Open) -> Result<(), NoMemory>
-    ensures ok { OnOk result (opens.new.items ≡ insert_by open_before added opens.old.items) }
-    ensures err { OnErr result (opens.new.items ≡ opens.old.items) }
-{
-    let place = place_behind(opens, &added);
-    match opens.insert(place, added) {
-        Ok(()) => Ok(()),
-        Err(_) => Err(NoMemory),
-    }
-}
-
-/// The place of the open of a handle.
-fn place_of_open(opens: &[Open], handle: HandleId) -> Option<usize>
-    ensures { result ≡ position (λ o. same_handle handle o.handle) opens.now }
-{
-    opens.iter().position(|open| handle == open.handle)
-}
-
-/// Sets the mark for delete on close of the open of a handle, or takes it off.
-fn mark_open(opens: &mut Vec<Open>, handle: HandleId, on: bool)
-    ensures { opens.new.items ≡ change (λ o. same_handle handle o.handle) (with_mark on) opens.old.items }
-{
-    match place_of_open(opens, handle) {
-        None => {}
-        Some(place) => {
-            let open = &mut opens[place];
-            open.on_close = on;
-        }
-    }
+    held.handle
 }
 
 impl State {
@@ -130,14 +66,14 @@ impl State {
     pub fn is_opened(&self, id: u64) -> bool
         ensures { result ≡ is_opened self.now id }
     {
-        any_on(&self.opens, id)
+        self.opens.is_on(id)
     }
 
     /// How many opens a node has.
     pub fn count_on(&self, id: u64) -> u64
         ensures { result ≡ length (opens_on self.now id) }
     {
-        count_on(&self.opens, id)
+        self.opens.count_on(id)
     }
 
     /// How many opens a session was granted, none where it isn't live.
@@ -169,7 +105,7 @@ impl State {
         ensures err { OnErr result (self.new ≡ self.old) }
     {
         let session = holder_of(&added);
-        match insert_open(&mut self.opens, added) {
+        match self.opens.put(added) {
             Ok(()) => {
                 grant(&mut self.sessions, session);
                 Ok(())
@@ -195,19 +131,23 @@ impl State {
         ensures ok { OnOk result (self.new ≡ put_open added (make_node number name node self.old)) }
         ensures err { OnErr result (self.new ≡ self.old) }
     {
-        match self.opens.reserve(1) {
-            Ok(()) => {}
-            Err(_) => return Err(NoMemory),
-        }
-        match make_in(&mut self.shares, number, name, node) {
+        let handle = handle_of(&added);
+        let session = holder_of(&added);
+        match self.opens.put(added) {
             Ok(()) => {}
             Err(failed) => return Err(failed),
         }
-        let session = holder_of(&added);
-        self.next_id += 1;
-        grant(&mut self.sessions, session);
-        insert_in_room(&mut self.opens, added);
-        Ok(())
+        match make_in(&mut self.shares, number, name, node) {
+            Ok(()) => {
+                self.next_id += 1;
+                grant(&mut self.sessions, session);
+                Ok(())
+            }
+            Err(failed) => {
+                self.opens.take(handle);
+                Err(failed)
+            }
+        }
     }
 
     /// Sets the mark for delete on close of the open of a handle, or takes it off.
@@ -215,6 +155,6 @@ impl State {
     pub fn mark_open(&mut self, handle: HandleId, on: bool)
         ensures { self.new ≡ change_open handle (with_mark on) self.old }
     {
-        mark_open(&mut self.opens, handle, on);
+        self.opens.mark(handle, on);
     }
 }

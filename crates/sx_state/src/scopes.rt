@@ -129,7 +129,14 @@ impl State {
             ≡ filter (is_matched handle) (scope self.now tree.now id recursive)) }
         ensures few { IfOk result (λ found. length found.items ≤ length self.now.opens) }
     {
-        matched_in(self.alloc, &self.opens, tree, id, recursive, &handle)
+        matched_in(
+            self.alloc,
+            self.opens.as_slice(),
+            tree,
+            id,
+            recursive,
+            &handle,
+        )
     }
 
     /// An open in a listing.
@@ -172,7 +179,14 @@ impl State {
     ) -> Result<HandlesPage, NoMemory>
         ensures { IfOk result (λ page. page ≡ handles_page self.now tree.now id marker.now max recursive) }
     {
-        let opens = listed_in(self.alloc, &self.opens, tree, id, recursive, marker)?;
+        let opens = listed_in(
+            self.alloc,
+            self.opens.as_slice(),
+            tree,
+            id,
+            recursive,
+            marker,
+        )?;
         let most = max.results() as usize;
         let items = self.handle_items(tree, front_of(&opens, most))?;
         Ok(HandlesPage {

@@ -67,13 +67,6 @@ fn kept_at(snapshots: &[Snapshot], moment: Moment) -> Option<&Snapshot>
     snapshots.iter().find(|kept| kept.moment == moment)
 }
 
-/// The open of a handle.
-fn open_with(opens: &[Open], handle: HandleId) -> Option<&Open>
-    ensures { option_copied result ≡ find (has_handle handle) opens.now }
-{
-    opens.iter().find(|held| handle == held.handle)
-}
-
 /// Whether a node is to be deleted when its last open is closed.
 fn is_pending(tree: &Tree, id: u64) -> bool
     ensures { result ≡ is_pending tree.now id }
@@ -351,7 +344,7 @@ impl State {
     pub fn handle_place(&self, handle: HandleId, needed: Access) -> Result<HandlePlace<'_>, Refusal>
         ensures { result ≡ handle_place self.now handle needed }
     {
-        let Some(held) = open_with(&self.opens, handle) else {
+        let Some(held) = self.opens.open_of(handle) else {
             return Err(Refusal::NoHandle { handle });
         };
         let Some(share) = self.share_numbered(held.share) else {

@@ -2,11 +2,12 @@
 ghost use Rattle.std.specs.Prelude.{◌≡◌, length};
 ghost use Rattle.sx_spec.specs.Account.{empty};
 
+use crate::handles::Opens;
 use crate::locked::Locked;
 use std::alloc::Global;
 use std::collections::BTreeMap;
 use std::marker::Model;
-use sx_call::{Live, Open};
+use sx_call::Live;
 use sx_tree::Share;
 
 /// All that a call can change. Contracts see the store of the definitions.
@@ -18,7 +19,7 @@ pub struct State {
     pub(crate) next_id: u64,
     pub(crate) made: u32,
     pub(crate) shares: BTreeMap<u32, Share>,
-    pub(crate) opens: Vec<Open>,
+    pub(crate) opens: Opens,
     pub(crate) locks: Locked,
 }
 
@@ -44,7 +45,7 @@ impl State {
             next_id: 1,
             made: 0,
             shares: BTreeMap::new(alloc),
-            opens: Vec::new(alloc),
+            opens: Opens::new(alloc),
             locks: Locked::new(alloc),
         }
     }

@@ -5,7 +5,7 @@ use Rattle.sx_guard.specs.Handle.{same_handle}
 use Rattle.sx_call.specs.declared.opens.Open.{Open}
 use Rattle.sx_spec.specs.SessionCalls.{with_mark}
 use Rattle.sx_state.proofs.Changes.{change_none}
-use Rattle.sx_state.proofs.opens.mark_open.Goals as goal
+use Rattle.sx_state.proofs.handles.mark_open.Goals as goal
 
 pub returns-in-None : goal.returns-in-None
 returns-in-None c =

@@ -1,0 +1,13 @@
+use Rattle.std.proofs.Common.{not, rules, tests}
+use Rattle.std.proofs.lemmas.List.Sorted.{IsPartitionPoint-from_clause}
+use Rattle.sx_spec.specs.Changes.{open_before}
+use Rattle.sx_call.specs.declared.opens.Open.{Open}
+use Rattle.sx_state.proofs.Runs.{place_is}
+use Rattle.sx_state.proofs.OpenRuns.{behind_parts}
+use Rattle.sx_state.proofs.handles.place_behind.Goals as goal
+
+pub returns-clause-place : goal.returns-clause-place
+returns-clause-place c =
+    let test = λ (o : Open). not (open_before c.args.added.now o) in
+    let point = IsPartitionPoint-from_clause test _ _ c.partition_point.ensures.partitioned (behind_parts c.args.added.now c.args.opens.now c.requires) (λ a r q k. search (rules, tests)) in
+    place_is test c.args.opens.now c.partition_point.result c.partition_point.ensures.bound point
