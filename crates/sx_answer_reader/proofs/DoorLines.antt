@@ -1,9 +1,10 @@
 -- The line that a session's door prints for an answer is the line of what it tells.
 use Rattle.std.proofs.Common.{codes, ◌≡◌, ℕ, Bool, true, false, List, [], ◌∷◌, ◌++◌, Option, Some, None, option_map, IfSome}
-use Rattle.std.proofs.Common.{refl, sym, ap, ◌∙◌, arith, append_assoc, append-nil, ◌-◌, length}
+use Rattle.std.proofs.Common.{refl, sym, ap, ◌∙◌, arith, append_assoc, append-nil, ◌-◌, length, map, cond}
+use Rattle.std.proofs.lemmas.List.{length-map}
 use Rattle.std.proofs.lemmas.Bool.{ne_eqb}
 use Rattle.std.proofs.lemmas.Fmt.{decimal_digit}
-use Rattle.std.specs.List.{concat}
+use Rattle.std.specs.List.{concat, flat_map}
 use Rattle.std.specs.List.{join_with_byte}
 use Rattle.std.specs.Fmt.{decimal}
 use Rattle.sx_call.specs.declared.refusals.Stop.{Stop as StopCause}
@@ -23,12 +24,17 @@ use Rattle.sx_answer_reader.specs.declared.reason.Reason.{Reason}
 use Rattle.sx_guard.specs.Handle.{Handle}
 use Rattle.sx_reply.specs.Refusals.{row_of, message_of}
 use Rattle.hex.specs.Hex.{encode_lower}
-use Rattle.sx_lines.specs.Answers.{answer_line, reply_line, smb_line, bytes_line, stop_line, refusal_word, refusal_line}
+use Rattle.sx_lines.specs.Answers.{answer_line, reply_line, smb_line, bytes_line, stat_line, list_line, next_text, stop_line, refusal_word, refusal_line}
 use Rattle.sx_answer_reader.specs.declared.answer.Answer.TheVariants.{Done, Refused, Stop}
-use Rattle.sx_answer_reader.specs.declared.answer.Told.TheVariants.{Read}
+use Rattle.sx_answer_reader.specs.declared.answer.Told.TheVariants.{Read, Stats, Listed}
+use Rattle.sx_names.specs.declared.attributes.Attributes.{Attributes}
+use Rattle.sx_names.specs.declared.page.NamesPage.{NamesPage}
+use Rattle.sx_names.specs.declared.page.NameItem.{NameItem}
+use Rattle.sx_listing.specs.Percent.{percent_text}
+use Rattle.sx_lines.specs.Printed.{attributes_text, item_text}
 use Rattle.sx_answer_reader.specs.Refusals.{reason_word, handle_text, message_words}
-use Rattle.sx_answer_reader.specs.Answers.{told_words, words_of, told_line}
-use Rattle.sx_answer_reader.specs.Doors.{told_of, reason_of, reply_told, answer_told, IsLineOf}
+use Rattle.sx_answer_reader.specs.Answers.{entry_word, told_words, words_of, told_line}
+use Rattle.sx_answer_reader.specs.Doors.{entry_of, told_of, reason_of, reply_told, answer_told, IsLineOf}
 use Rattle.sx_answer_reader.proofs.Walks.{behind, joined}
 
 -- words with a space before each, and an end behind them
@@ -73,7 +79,71 @@ bytes_are place (b ∷ bytes) =
     read_then (decimal place) (decimal (length (b ∷ bytes))) (encode_lower (b ∷ bytes))
     ∙ ok_line place (codes "read" ∷ decimal (length (b ∷ bytes)) ∷ encode_lower (b ∷ bytes) ∷ []))
 
-smb_is : (place : ℕ) (reply : SmbReply) → IfSome (option_map (Done place) (told_of reply)) (λ told. smb_line place reply ≡ told_line told ++ codes "\n")
+stat_then : (p i k l a x : List ℕ) → (concat (codes "OK " ∷ p ∷ codes " stat " ∷ i ∷ k ∷ l ∷ codes " " ∷ []) ++ a) ++ x
+    ≡ codes "OK " ++ (p ++ (codes " stat " ++ (i ++ (k ++ (l ++ (32 ∷ (a ++ x)))))))
+stat_then p i k l a x =
+    ap (λ (y : List ℕ). codes "OK " ++ y) (
+    append_assoc (p ++ (codes " stat " ++ (i ++ (k ++ (l ++ (32 ∷ [])))))) a x
+    ∙ append_assoc p (codes " stat " ++ (i ++ (k ++ (l ++ (32 ∷ []))))) (a ++ x)
+    ∙ ap (λ (y : List ℕ). p ++ (codes " stat " ++ y)) (
+    append_assoc i (k ++ (l ++ (32 ∷ []))) (a ++ x)
+    ∙ ap (λ (y : List ℕ). i ++ y) (
+    append_assoc k (l ++ (32 ∷ [])) (a ++ x) ∙ ap (λ (y : List ℕ). k ++ y) (append_assoc l (32 ∷ []) (a ++ x)))))
+
+-- the times, with the line feed
+abbrev times : ℕ → ℕ → ℕ → List ℕ
+times c w g = concat (codes " " ∷ decimal c ∷ codes " " ∷ decimal w ∷ codes " " ∷ decimal g ∷ codes "\n" ∷ [])
+
+stats_are : (place id : ℕ) (dir : Bool) (l : ℕ) (a : Attributes) (c w g : ℕ)
+    → stat_line place id dir l a c w g ≡ told_line (Done place (Stats id dir l a c w g)) ++ feed
+unfolding stat_line told_line words_of told_words
+stats_are place id true l a c w g =
+    stat_then (decimal place) (decimal id) (codes " dir ") (decimal l) (attributes_text a) (times c w g)
+    ∙ ok_line place (codes "stat" ∷ decimal id ∷ codes "dir" ∷ decimal l ∷ attributes_text a ∷ decimal c ∷ decimal w ∷ decimal g ∷ [])
+stats_are place id false l a c w g =
+    stat_then (decimal place) (decimal id) (codes " file ") (decimal l) (attributes_text a) (times c w g)
+    ∙ ok_line place (codes "stat" ∷ decimal id ∷ codes "file" ∷ decimal l ∷ attributes_text a ∷ decimal c ∷ decimal w ∷ decimal g ∷ [])
+
+item_by : (dir : Bool) (n : ℕ) (name : List ℕ)
+    → cond dir (concat (codes " dir:0:" ∷ percent_text name ∷ [])) (concat (codes " file:" ∷ decimal n ∷ codes ":" ∷ percent_text name ∷ []))
+    ≡ 32 ∷ entry_word (record { dir = dir; length = cond dir 0 n; name = name })
+item_by true n name =
+    ap (λ (x : List ℕ). codes " dir:0:" ++ x) (append-nil (percent_text name))
+    ∙ ap (λ (x : List ℕ). codes " dir:" ++ (x ++ (codes ":" ++ percent_text name))) (sym (decimal_digit 0 (omega arith)))
+item_by false n name = ap (λ (x : List ℕ). codes " file:" ++ (decimal n ++ (codes ":" ++ x))) (append-nil (percent_text name))
+
+item_is : (item : NameItem) → item_text item ≡ 32 ∷ entry_word (entry_of item)
+unfolding item_text
+item_is item = item_by item.dir item.length item.name
+
+items_then : (items : List NameItem) → flat_map item_text items ++ feed ≡ behind_then (map entry_word (map entry_of items)) feed
+items_then [] = refl
+items_then (item ∷ items) =
+    ap (λ (x : List ℕ). (x ++ flat_map item_text items) ++ feed) (item_is item)
+    ∙ ap (λ (x : List ℕ). 32 ∷ x) (
+    append_assoc (entry_word (entry_of item)) (flat_map item_text items) feed
+    ∙ ap (λ (x : List ℕ). entry_word (entry_of item) ++ x) (items_then items))
+
+list_then : (p n x y : List ℕ) → (concat (codes "OK " ∷ p ∷ codes " list " ∷ n ∷ codes " " ∷ x ∷ []) ++ y) ++ concat (codes "\n" ∷ [])
+    ≡ codes "OK " ++ (p ++ (codes " list " ++ (n ++ (32 ∷ (x ++ (y ++ feed))))))
+list_then p n x y =
+    ap (λ (z : List ℕ). codes "OK " ++ z) (
+    append_assoc (p ++ (codes " list " ++ (n ++ (32 ∷ (x ++ []))))) y feed
+    ∙ append_assoc p (codes " list " ++ (n ++ (32 ∷ (x ++ [])))) (y ++ feed)
+    ∙ ap (λ (z : List ℕ). p ++ (codes " list " ++ z)) (
+    append_assoc n (32 ∷ (x ++ [])) (y ++ feed) ∙ ap (λ (z : List ℕ). n ++ (32 ∷ z)) (append_assoc x [] (y ++ feed))))
+
+page_is : (place : ℕ) (page : NamesPage) → list_line place page ≡ told_line (Done place (Listed (map entry_of page.items) page.next)) ++ feed
+unfolding list_line told_line words_of told_words
+page_is place page =
+    let entries = map entry_of page.items in
+    let next = next_text page.next in
+    list_then (decimal place) (decimal (length page.items)) next (flat_map item_text page.items)
+    ∙ ap (λ (z : List ℕ). codes "OK " ++ (decimal place ++ (codes " list " ++ (decimal (length page.items) ++ (32 ∷ (next ++ z)))))) (items_then page.items)
+    ∙ ap (λ (m : ℕ). codes "OK " ++ (decimal place ++ (codes " list " ++ (decimal m ++ (32 ∷ (next ++ behind_then (map entry_word entries) feed)))))) (sym (length-map page.items entry_of))
+    ∙ ok_line place (codes "list" ∷ decimal (length entries) ∷ next ∷ map entry_word entries)
+
+smb_is : (place : ℕ) (reply : SmbReply) → smb_line place reply ≡ told_line (Done place (told_of reply)) ++ codes "\n"
 unfolding smb_line told_of told_line words_of told_words
 smb_is place (StartReply session) = ok_line place (codes "start" ∷ decimal session ∷ [])
 smb_is place (EndReply closed) = ok_line place (codes "end" ∷ decimal closed ∷ [])
@@ -87,8 +157,8 @@ smb_is place (WriteReply count length) = ok_line place (codes "write" ∷ decima
 smb_is place (ResizeReply length) = ok_line place (codes "resize" ∷ decimal length ∷ [])
 smb_is place LockReply = ok_line place (codes "lock" ∷ [])
 smb_is place UnlockReply = ok_line place (codes "unlock" ∷ [])
-smb_is place (StatsReply id dir length attributes created written changed) = tt
-smb_is place (NamesReply page) = tt
+smb_is place (StatsReply id dir length attributes created written changed) = stats_are place id dir length attributes created written changed
+smb_is place (NamesReply page) = page_is place page
 smb_is place DisposeReply = ok_line place (codes "dispose" ∷ [])
 
 -- a refusal's line, by its word, place and message

@@ -6,6 +6,9 @@ pub mod MessageWords
 pub mod OnlyPrinted
 pub mod MessageBack
 pub mod HexWords
+pub mod AttributeWords
+pub mod EntryWords
+pub mod EntryLists
 pub mod ViewBytes
 pub mod ReadBack
 pub mod Answered

@@ -1,5 +1,5 @@
 -- A line that is read is the line of the answer that it is read as.
-use Rattle.std.proofs.Common.{codes, ◌≡◌, ℕ, ◌<◌, Bool, true, false, cond, ◌==◌, List, [], ◌∷◌, ◌++◌, length, Some, None, bytes_eq}
+use Rattle.std.proofs.Common.{codes, ◌≡◌, ℕ, ◌<◌, Bool, true, false, cond, ◌==◌, List, [], ◌∷◌, ◌++◌, length, map, Option, Some, None, bytes_eq}
 use Rattle.std.proofs.Common.{refl, sym, ap, subst, ◌∙◌, arith}
 use Rattle.std.specs.List.{join_with_byte}
 use Rattle.std.specs.Fmt.{decimal}
@@ -10,22 +10,30 @@ use Rattle.sx_lines.specs.Reading.{when_some}
 use Rattle.sx_lines.specs.Words.{first_word, behind_first, next_word, behind_next}
 use Rattle.sx_lines.proofs.SpelledWords.{IsBehind}
 use Rattle.sx_answer_reader.specs.declared.kind.Kind.{Kind}
-use Rattle.sx_answer_reader.specs.declared.kind.Kind.TheVariants.{Start, End, Open, Close, Read, Write, Resize, Lock, Unlock, Dispose}
+use Rattle.sx_answer_reader.specs.declared.kind.Kind.TheVariants.{Start, End, Open, Close, Read, Write, Resize, Lock, Unlock, Stat, List as Lists, Dispose}
 use Rattle.sx_answer_reader.specs.declared.answer.Told.{Told}
-use Rattle.sx_answer_reader.specs.declared.answer.Told.TheVariants.{Started, Ended, Opened, Closed, Read as BytesRead, Wrote, Resized, Locked, Unlocked, Disposed}
+use Rattle.sx_answer_reader.specs.declared.answer.Told.TheVariants.{Started, Ended, Opened, Closed, Read as BytesRead, Wrote, Resized, Locked, Unlocked, Stats, Listed, Disposed}
 use Rattle.sx_answer_reader.specs.declared.answer.Answer.{Answer}
 use Rattle.sx_answer_reader.specs.declared.answer.Answer.TheVariants.{Done, Refused, Syntax, Long, Stop as Stopped}
-use Rattle.sx_answer_reader.specs.Answers.{told_words, words_of, told_line, made_word, fate_word, hex_text, FitsTold, Fits}
+use Rattle.sx_answer_reader.specs.Answers.{told_words, words_of, told_line, made_word, fate_word, dir_word, hex_text, entry_word, FitsTold, Fits}
 use Rattle.sx_answer_reader.specs.Words.{number, count, index, choice, fate, bytes_of, end_of}
-use Rattle.sx_answer_reader.specs.Grammar.{started, ended, opened, closed, bytes_read, read, wrote, resized, bare, told_by, kind_of, told, done, syntax, long, full, stopped, refused, failed, answer_of}
+use Rattle.sx_answer_reader.specs.Grammar.{started, ended, opened, closed, bytes_read, read, wrote, resized, stats, listed, bare, told_by, kind_of, told, done, syntax, long, full, stopped, refused, failed, answer_of}
 use Rattle.sx_answer_reader.specs.declared.reason.Reason.{Reason}
 use Rattle.sx_answer_reader.specs.declared.reason.Reason.TheVariants.{ShareAbsent, ParentAbsent, NameAbsent, NameThere, IsDirectory, IsFile, LeaseHeld, Pending, ReadOnly, Shared, Locked as LockInTheWay, NotLocked, QuotaMet, OpensFull, NoHandle, LacksAccess}
 use Rattle.sx_answer_reader.specs.Refusals.{reason_word, message_words}
 use Rattle.sx_answer_reader.specs.Messages.{message}
 use Rattle.sx_answer_reader.proofs.MessageWords.{message_is}
 use Rattle.sx_answer_reader.proofs.Walks.{behind, joined, first_shaped, next_shaped, whole, stands, nothing, chosen}
-use Rattle.sx_answer_reader.proofs.WrittenFields.{some_is, same_text, number_is, count_is, index_is, made_is, made_some, fate_is, fate_some, kind_word, kind_is, kind_some, kept_if}
+use Rattle.sx_answer_reader.proofs.WrittenFields.{some_is, same_text, number_is, count_is, index_is, made_is, made_some, fate_is, fate_some, dir_is, dir_some, kind_word, kind_is, kind_some, kept_if}
+use Rattle.sx_names.specs.declared.attributes.Attributes.{Attributes}
+use Rattle.sx_lines.specs.Printed.{attributes_text}
+use Rattle.sx_answer_reader.specs.Attributes.{attributes_of}
 use Rattle.sx_answer_reader.proofs.HexWords.{bytes_is}
+use Rattle.sx_lines.specs.Answers.{next_text}
+use Rattle.sx_answer_reader.specs.Entries.{entries_of, next_of}
+use Rattle.sx_answer_reader.proofs.AttributeWords.{attributes_is}
+use Rattle.sx_answer_reader.proofs.EntryWords.{next_is_text, next_some}
+use Rattle.sx_answer_reader.proofs.EntryLists.{entries_are}
 
 -- what is told has a first word, and the words behind it stand here
 abbrev pub Spells : Told → List ℕ → List ℕ → Type 0
@@ -121,6 +129,68 @@ resized_is k t h e =
     subst (λ (x : Told). Spells x (codes "resize") k) (some_is (Resized a.0) t b.2)
     (decimal a.0 ∷ [], refl, last k (decimal a.0) b.0 h l.0 l.1 b.1, l.3)
 
+stats_is : (k : List ℕ) (t : Told) → IsBehind k → stats k ≡ Some t → Spells t (codes "stat") k
+unfolding stats told_words
+stats_is k t h e =
+    let k1 = behind_next k in
+    let k2 = behind_next k1 in
+    let k3 = behind_next k2 in
+    let k4 = behind_next k3 in
+    let k5 = behind_next k4 in
+    let k6 = behind_next k5 in
+    let end : (ℕ → Bool → ℕ → Attributes → ℕ → ℕ → ℕ → Option Told) = λ id dir l a c w g. when_some (end_of (behind_next k6)) (λ _. Some (Stats id dir l a c w g)) in
+    let f = chosen (number k) (λ id. when_some (choice (codes "dir") (codes "file") k1) (λ dir. when_some (number k2) (λ l. when_some (attributes_of (next_word k3)) (λ a. when_some (number k4) (λ c. when_some (number k5) (λ w. when_some (number k6) (λ g. end id dir l a c w g))))))) t e in
+    let d = chosen (choice (codes "dir") (codes "file") k1) (λ dir. when_some (number k2) (λ l. when_some (attributes_of (next_word k3)) (λ a. when_some (number k4) (λ c. when_some (number k5) (λ w. when_some (number k6) (λ g. end f.0 dir l a c w g)))))) t f.2 in
+    let l = chosen (number k2) (λ l. when_some (attributes_of (next_word k3)) (λ a. when_some (number k4) (λ c. when_some (number k5) (λ w. when_some (number k6) (λ g. end f.0 d.0 l a c w g))))) t d.2 in
+    let a = chosen (attributes_of (next_word k3)) (λ a. when_some (number k4) (λ c. when_some (number k5) (λ w. when_some (number k6) (λ g. end f.0 d.0 l.0 a c w g)))) t l.2 in
+    let c = chosen (number k4) (λ c. when_some (number k5) (λ w. when_some (number k6) (λ g. end f.0 d.0 l.0 a.0 c w g))) t a.2 in
+    let w = chosen (number k5) (λ w. when_some (number k6) (λ g. end f.0 d.0 l.0 a.0 c.0 w g)) t c.2 in
+    let g = chosen (number k6) (λ g. end f.0 d.0 l.0 a.0 c.0 w.0 g) t w.2 in
+    let u = chosen (end_of (behind_next k6)) (λ _. Some (Stats f.0 d.0 l.0 a.0 c.0 w.0 g.0)) t g.2 in
+    let ni = number_is k f.0 f.1 in
+    let nl = number_is k2 l.0 l.1 in
+    let na = attributes_is (next_word k3) a.0 a.1 in
+    let nc = number_is k4 c.0 c.1 in
+    let nw = number_is k5 w.0 w.1 in
+    let ng = number_is k6 g.0 g.1 in
+    let w6 = decimal g.0 ∷ [] in
+    let w5 = decimal w.0 ∷ w6 in
+    let w4 = decimal c.0 ∷ w5 in
+    let w3 = attributes_text a.0 ∷ w4 in
+    let w2 = decimal l.0 ∷ w3 in
+    let w1 = dir_word d.0 ∷ w2 in
+    let s6 = last k6 (decimal g.0) u.0 (next_shaped k5) ng.0 ng.1 u.1 in
+    let s5 = stands k5 (decimal w.0) w6 (next_shaped k4) nw.0 nw.1 s6 in
+    let s4 = stands k4 (decimal c.0) w5 (next_shaped k3) nc.0 nc.1 s5 in
+    let s3 = stands k3 (attributes_text a.0) w4 (next_shaped k2) na.0 na.1 s4 in
+    let s2 = stands k2 (decimal l.0) w3 (next_shaped k1) nl.0 nl.1 s3 in
+    let s1 = stands k1 (dir_word d.0) w2 (next_shaped k) (dir_is k1 d.0 d.1) (dir_some d.0) s2 in
+    let s0 = stands k (decimal f.0) w1 h ni.0 ni.1 s1 in
+    subst (λ (x : Told). Spells x (codes "stat") k) (some_is (Stats f.0 d.0 l.0 a.0 c.0 w.0 g.0) t u.2)
+    (decimal f.0 ∷ w1, refl, s0, (ni.3, nl.3, nc.3, nw.3, ng.3))
+
+listed_is : (k : List ℕ) (t : Told) → IsBehind k → listed k ≡ Some t → Spells t (codes "list") k
+unfolding listed told_words
+listed_is k t h e =
+    let k1 = behind_next k in
+    let k2 = behind_next k1 in
+    let a = chosen (number k) (λ n. when_some (entries_of n k2) (λ es. when_some (next_of (next_word k1)) (λ x. Some (Listed es x)))) t e in
+    let b = chosen (entries_of a.0 k2) (λ es. when_some (next_of (next_word k1)) (λ x. Some (Listed es x))) t a.2 in
+    let c = chosen (next_of (next_word k1)) (λ x. Some (Listed b.0 x)) t b.2 in
+    let n = number_is k a.0 a.1 in
+    let es = entries_are a.0 k2 b.0 (next_shaped k1) b.1 in
+    let x = next_is_text (next_word k1) c.0 c.1 in
+    let count = es.1 in
+    let ws = map entry_word b.0 in
+    let s1 = stands k1 (next_text c.0) ws (next_shaped k) x.0 (next_some c.0 x.1) es.0 in
+    let s0 = stands k (decimal a.0) (next_text c.0 ∷ ws) h n.0 n.1 s1 in
+    subst (λ (v : Told). Spells v (codes "list") k) (some_is (Listed b.0 c.0) t c.2) (
+      decimal (length b.0) ∷ next_text c.0 ∷ ws,
+      refl,
+      ap (λ (m : ℕ). behind (decimal m ∷ next_text c.0 ∷ ws)) count ∙ s0,
+      (es.2, omega (arith, count, n.3), x.1),
+    )
+
 bare_is : (k verb : List ℕ) (one t : Told) → told_words one ≡ verb ∷ [] → FitsTold one → bare one k ≡ Some t → Spells t verb k
 unfolding bare
 bare_is k verb one t w f e =
@@ -138,6 +208,8 @@ by_kind Write k t h e = wrote_is k t h e
 by_kind Resize k t h e = resized_is k t h e
 by_kind Lock k t h e = bare_is k (codes "lock") Locked t refl tt e
 by_kind Unlock k t h e = bare_is k (codes "unlock") Unlocked t refl tt e
+by_kind Stat k t h e = stats_is k t h e
+by_kind Lists k t h e = listed_is k t h e
 by_kind Dispose k t h e = bare_is k (codes "dispose") Disposed t refl tt e
 
 pub told_is : (k : List ℕ) (t : Told) → IsBehind k → told k ≡ Some t → (behind (told_words t) ≡ k) × FitsTold t

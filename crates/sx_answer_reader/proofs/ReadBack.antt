@@ -1,5 +1,5 @@
 -- The line of an answer is read as this answer.
-use Rattle.std.proofs.Common.{codes, ◌≡◌, ℕ, Bool, true, false, cond, ◌==◌, List, [], ◌∷◌, ◌++◌, length, Some, None, bytes_eq}
+use Rattle.std.proofs.Common.{codes, ◌≡◌, ℕ, Bool, true, false, cond, ◌==◌, List, [], ◌∷◌, ◌++◌, length, map, Some, None, bytes_eq}
 use Rattle.std.proofs.Common.{refl, sym, ap, ◌∙◌, arith}
 use Rattle.std.specs.List.{join_with_byte}
 use Rattle.std.specs.Fmt.{decimal}
@@ -12,14 +12,14 @@ use Rattle.sx_lines.specs.Words.{next_word}
 use Rattle.sx_lines.proofs.SpelledWords.{IsWord, IsBehind, first_is, behind_is, next_is, rest_is}
 use Rattle.sx_lines.proofs.SpelledNumbers.{number_is}
 use Rattle.sx_answer_reader.specs.declared.kind.Kind.{Kind}
-use Rattle.sx_answer_reader.specs.declared.kind.Kind.TheVariants.{Start, End, Open, Close, Read, Write, Resize, Lock, Unlock, Dispose}
+use Rattle.sx_answer_reader.specs.declared.kind.Kind.TheVariants.{Start, End, Open, Close, Read, Write, Resize, Lock, Unlock, Stat, List as Lists, Dispose}
 use Rattle.sx_answer_reader.specs.declared.answer.Told.{Told}
-use Rattle.sx_answer_reader.specs.declared.answer.Told.TheVariants.{Started, Ended, Opened, Closed, Read as BytesRead, Wrote, Resized, Locked, Unlocked, Disposed}
+use Rattle.sx_answer_reader.specs.declared.answer.Told.TheVariants.{Started, Ended, Opened, Closed, Read as BytesRead, Wrote, Resized, Locked, Unlocked, Stats, Listed, Disposed}
 use Rattle.sx_answer_reader.specs.declared.answer.Answer.{Answer}
 use Rattle.sx_answer_reader.specs.declared.answer.Answer.TheVariants.{Done, Refused, Syntax, Long, Stop as Stopped}
-use Rattle.sx_answer_reader.specs.Answers.{told_words, words_of, told_line, made_word, fate_word, hex_text, FitsTold, FitsStop, Fits}
+use Rattle.sx_answer_reader.specs.Answers.{told_words, words_of, told_line, made_word, fate_word, dir_word, hex_text, entry_word, FitsEntry, FitsTold, FitsStop, Fits}
 use Rattle.sx_answer_reader.specs.Words.{index, choice, fate, end_of}
-use Rattle.sx_answer_reader.specs.Grammar.{started, ended, opened, closed, bytes_read, read, wrote, resized, bare, told_by, kind_of, told, done, syntax, long, full, stopped, refused, failed, answer_of}
+use Rattle.sx_answer_reader.specs.Grammar.{started, ended, opened, closed, bytes_read, read, wrote, resized, stats, listed, bare, told_by, kind_of, told, done, syntax, long, full, stopped, refused, failed, answer_of}
 use Rattle.sx_answer_reader.specs.declared.reason.Reason.{Reason}
 use Rattle.sx_answer_reader.specs.declared.reason.Reason.TheVariants.{ShareAbsent, ParentAbsent, NameAbsent, NameThere, IsDirectory, IsFile, LeaseHeld, Pending, ReadOnly, Shared, Locked as LockInTheWay, NotLocked, QuotaMet, OpensFull, NoHandle, LacksAccess}
 use Rattle.sx_answer_reader.specs.Limits.{IsNumber, IsCount, IsIndex}
@@ -28,7 +28,18 @@ use Rattle.sx_answer_reader.specs.Messages.{message}
 use Rattle.sx_answer_reader.proofs.MessageBack.{number_word, count_word, number_back, count_back, same_word, IsAsked, message_back}
 use Rattle.hex.specs.Hex.{IsBytes}
 use Rattle.std.proofs.lemmas.Bool.{eq-eqb}
+use Rattle.sx_names.specs.declared.attributes.Attributes.{Attributes}
+use Rattle.sx_lines.specs.Printed.{attributes_text}
+use Rattle.sx_answer_reader.specs.Attributes.{attributes_of}
 use Rattle.sx_answer_reader.proofs.HexWords.{hex_visible, bytes_back}
+use Rattle.std.specs.List.{All}
+use Rattle.std.specs.Str.{is_utf8}
+use Rattle.sx_lines.specs.Answers.{next_text}
+use Rattle.sx_lines.proofs.SpelledPaths.{marker_word}
+use Rattle.sx_answer_reader.specs.declared.answer.Entry.{Entry}
+use Rattle.sx_answer_reader.proofs.EntryWords.{next_back}
+use Rattle.sx_answer_reader.proofs.EntryLists.{entries_back}
+use Rattle.sx_answer_reader.proofs.AttributeWords.{attributes_visible, attributes_back}
 use Rattle.sx_answer_reader.proofs.Walks.{behind, joined, behind_shaped}
 
 -- ---- fields
@@ -49,6 +60,21 @@ made_chosen false k e = rw e refl
 
 made_back : (made : Bool) (rest : List ℕ) → IsBehind rest → choice (codes "created") (codes "opened") (32 ∷ (made_word made ++ rest)) ≡ Some made
 made_back made rest b = made_chosen made (32 ∷ (made_word made ++ rest)) (next_is (made_word made) rest (made_visible made) b)
+
+dir_visible : (dir : Bool) → IsWord (dir_word dir)
+dir_visible true = refl
+dir_visible false = refl
+
+dir_chosen : (dir : Bool) (k : List ℕ) → next_word k ≡ dir_word dir → choice (codes "dir") (codes "file") k ≡ Some dir
+unfolding choice
+dir_chosen true k e = rw e refl
+dir_chosen false k e = rw e refl
+
+dir_back : (dir : Bool) (rest : List ℕ) → IsBehind rest → choice (codes "dir") (codes "file") (32 ∷ (dir_word dir ++ rest)) ≡ Some dir
+dir_back dir rest b = dir_chosen dir (32 ∷ (dir_word dir ++ rest)) (next_is (dir_word dir) rest (dir_visible dir) b)
+
+named_back : (a : Attributes) (rest : List ℕ) → IsBehind rest → attributes_of (next_word (32 ∷ (attributes_text a ++ rest))) ≡ Some a
+named_back a rest b = ap attributes_of (next_is (attributes_text a) rest (attributes_visible a) b) ∙ attributes_back a
 
 fate_visible : (f : Fate) → IsWord (fate_word f)
 fate_visible Kept = refl
@@ -127,6 +153,56 @@ resized_back : (l : ℕ) → IsNumber l → resized (32 ∷ (decimal l ++ [])) �
 unfolding resized end_of
 resized_back l h = rw (number_back l [] h tt, rest_is (decimal l) [] (number_word l h) tt) refl
 
+-- what is left of the line behind the length, and from the length on
+abbrev times : ℕ → ℕ → ℕ → List ℕ
+times c w g = 32 ∷ (decimal c ++ 32 ∷ (decimal w ++ 32 ∷ (decimal g ++ [])))
+
+abbrev behind_dir : ℕ → Attributes → ℕ → ℕ → ℕ → List ℕ
+behind_dir l a c w g = 32 ∷ (decimal l ++ 32 ∷ (attributes_text a ++ times c w g))
+
+stats_back : (id : ℕ) (dir : Bool) (l : ℕ) (a : Attributes) (c w g : ℕ) → IsNumber id → IsNumber l → IsNumber c → IsNumber w → IsNumber g
+    → stats (32 ∷ (decimal id ++ 32 ∷ (dir_word dir ++ behind_dir l a c w g))) ≡ Some (Stats id dir l a c w g)
+unfolding stats end_of
+stats_back id dir l a c w g hi hl hc hw hg =
+    let k6 = 32 ∷ (decimal g ++ []) in
+    let k5 = 32 ∷ (decimal w ++ k6) in
+    let k4 = 32 ∷ (decimal c ++ k5) in
+    let k3 = 32 ∷ (attributes_text a ++ k4) in
+    let k2 = 32 ∷ (decimal l ++ k3) in
+    let k1 = 32 ∷ (dir_word dir ++ k2) in
+    rw (
+      rest_is (decimal id) k1 (number_word id hi) refl,
+      rest_is (dir_word dir) k2 (dir_visible dir) refl,
+      rest_is (decimal l) k3 (number_word l hl) refl,
+      rest_is (attributes_text a) k4 (attributes_visible a) refl,
+      rest_is (decimal c) k5 (number_word c hc) refl,
+      rest_is (decimal w) k6 (number_word w hw) refl,
+      rest_is (decimal g) [] (number_word g hg) tt,
+      number_back id k1 hi refl,
+      dir_back dir k2 refl,
+      number_back l k3 hl refl,
+      named_back a k4 refl,
+      number_back c k5 hc refl,
+      number_back w k6 hw refl,
+      number_back g [] hg tt,
+    ) refl
+
+listed_back : (es : List Entry) (next : List ℕ) → All FitsEntry es → IsNumber (length es) → is_utf8 next ≡ true
+    → listed (32 ∷ (decimal (length es) ++ 32 ∷ (next_text next ++ behind (map entry_word es)))) ≡ Some (Listed es next)
+unfolding listed
+listed_back es next h n u =
+    let k2 = behind (map entry_word es) in
+    let k1 = 32 ∷ (next_text next ++ k2) in
+    let shaped = behind_shaped (map entry_word es) in
+    rw (
+      rest_is (decimal (length es)) k1 (number_word (length es) n) refl,
+      rest_is (next_text next) k2 (marker_word next u) shaped,
+      number_back (length es) k1 n refl,
+      next_is (next_text next) k2 (marker_word next u) shaped,
+      entries_back es h,
+      next_back next u,
+    ) refl
+
 bare_back : (t : Told) → bare t [] ≡ Some t
 unfolding bare end_of
 bare_back t = refl
@@ -150,6 +226,12 @@ told_back (Wrote n l) h = by_word (codes "write") (32 ∷ (decimal n ++ 32 ∷ (
 told_back (Resized l) h = by_word (codes "resize") (32 ∷ (decimal l ++ [])) Resize (Resized l) refl refl refl (resized_back l h)
 told_back Locked h = by_word (codes "lock") [] Lock Locked refl tt refl (bare_back Locked)
 told_back Unlocked h = by_word (codes "unlock") [] Unlock Unlocked refl tt refl (bare_back Unlocked)
+told_back (Stats id dir l a c w g) h =
+    by_word (codes "stat") (32 ∷ (decimal id ++ 32 ∷ (dir_word dir ++ behind_dir l a c w g))) Stat (Stats id dir l a c w g) refl refl refl
+    (stats_back id dir l a c w g h.0 h.1 h.2 h.3 h.4)
+told_back (Listed es next) h =
+    by_word (codes "list") (32 ∷ (decimal (length es) ++ 32 ∷ (next_text next ++ behind (map entry_word es)))) Lists (Listed es next) refl refl refl
+    (listed_back es next h.0 h.1 h.2)
 told_back Disposed h = by_word (codes "dispose") [] Dispose Disposed refl tt refl (bare_back Disposed)
 
 -- ---- answers

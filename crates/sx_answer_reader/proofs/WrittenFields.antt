@@ -6,8 +6,8 @@ use Rattle.sx_call.specs.declared.replies.Fate.{Fate}
 use Rattle.sx_call.specs.declared.replies.Fate.TheVariants.{Kept, Pending, Gone}
 use Rattle.sx_lines.specs.Words.{next_word}
 use Rattle.sx_answer_reader.specs.declared.kind.Kind.{Kind}
-use Rattle.sx_answer_reader.specs.declared.kind.Kind.TheVariants.{Start, End, Open, Close, Read, Write, Resize, Lock, Unlock, Dispose}
-use Rattle.sx_answer_reader.specs.Answers.{made_word, fate_word}
+use Rattle.sx_answer_reader.specs.declared.kind.Kind.TheVariants.{Start, End, Open, Close, Read, Write, Resize, Lock, Unlock, Stat, List as Lists, Dispose}
+use Rattle.sx_answer_reader.specs.Answers.{made_word, fate_word, dir_word}
 use Rattle.sx_answer_reader.specs.Words.{number, count, index, choice, fate, found}
 use Rattle.sx_answer_reader.specs.Grammar.{kind_of}
 use Rattle.sx_answer_reader.proofs.Numerals.{IsNumeral, numeral}
@@ -56,6 +56,14 @@ pub made_some : (made : Bool) → 0 < length (made_word made)
 made_some true = omega arith
 made_some false = omega arith
 
+pub dir_is : (k : List ℕ) (dir : Bool) → choice (codes "dir") (codes "file") k ≡ Some dir → next_word k ≡ dir_word dir
+unfolding choice
+dir_is k dir e = found_is dir_word ((codes "dir", true) ∷ (codes "file", false) ∷ []) (next_word k) dir (refl, (refl, tt)) e
+
+pub dir_some : (dir : Bool) → 0 < length (dir_word dir)
+dir_some true = omega arith
+dir_some false = omega arith
+
 pub fate_is : (k : List ℕ) (f : Fate) → fate k ≡ Some f → next_word k ≡ fate_word f
 unfolding fate
 fate_is k f e =
@@ -77,6 +85,8 @@ kind_word Write = codes "write"
 kind_word Resize = codes "resize"
 kind_word Lock = codes "lock"
 kind_word Unlock = codes "unlock"
+kind_word Stat = codes "stat"
+kind_word Lists = codes "list"
 kind_word Dispose = codes "dispose"
 
 pub kind_is : (w : List ℕ) (kind : Kind) → kind_of w ≡ Some kind → w ≡ kind_word kind
@@ -85,8 +95,8 @@ kind_is w kind e =
     found_is kind_word (
     (codes "start", Start) ∷ (codes "end", End) ∷ (codes "open", Open) ∷ (codes "close", Close)
     ∷ (codes "read", Read) ∷ (codes "write", Write) ∷ (codes "resize", Resize) ∷ (codes "lock", Lock) ∷ (codes "unlock", Unlock)
-    ∷ (codes "dispose", Dispose) ∷ [])
-    w kind (refl, (refl, (refl, (refl, (refl, (refl, (refl, (refl, (refl, (refl, tt)))))))))) e
+    ∷ (codes "stat", Stat) ∷ (codes "list", Lists) ∷ (codes "dispose", Dispose) ∷ [])
+    w kind (refl, (refl, (refl, (refl, (refl, (refl, (refl, (refl, (refl, (refl, (refl, (refl, tt)))))))))))) e
 
 pub kind_some : (kind : Kind) → 0 < length (kind_word kind)
 kind_some Start = omega arith
@@ -98,4 +108,6 @@ kind_some Write = omega arith
 kind_some Resize = omega arith
 kind_some Lock = omega arith
 kind_some Unlock = omega arith
+kind_some Stat = omega arith
+kind_some Lists = omega arith
 kind_some Dispose = omega arith

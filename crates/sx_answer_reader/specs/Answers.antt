@@ -1,17 +1,21 @@
 -- The lines of a session's answers, by their words.
-use Rattle.std.specs.Prelude.{codes, ℕ, ◌==◌, Bool, if◌then◌else◌, List, [], ◌∷◌, length, ⊤}
-use Rattle.std.specs.List.{join_with_byte}
+use Rattle.std.specs.Prelude.{codes, ℕ, ◌≡◌, ◌==◌, ◌++◌, Bool, true, if◌then◌else◌, List, [], ◌∷◌, length, map, ⊤}
+use Rattle.std.specs.List.{All, join_with_byte}
+use Rattle.std.specs.Str.{is_utf8}
 use Rattle.std.specs.Fmt.{decimal}
 use Rattle.hex.specs.Hex.{encode_lower, IsBytes}
 use Rattle.sx_call.specs.declared.refusals.Stop.{Stop}
 use Rattle.sx_call.specs.declared.refusals.Stop.TheVariants.{NoMemory, HistoryFull}
 use Rattle.sx_call.specs.declared.replies.Fate.{Fate}
 use Rattle.sx_call.specs.declared.replies.Fate.TheVariants.{Kept, Pending, Gone}
+use Rattle.sx_listing.specs.Percent.{percent_text}
+use Rattle.sx_lines.specs.Answers.{next_text}
+use Rattle.sx_lines.specs.Printed.{attributes_text}
 use Rattle.sx_lines.specs.declared.line.TheConstants.{LINE_LIMIT}
+use Rattle.sx_answer_reader.specs.declared.answer.Entry.{Entry}
 use Rattle.sx_answer_reader.specs.declared.answer.Told.{Told}
 use Rattle.sx_answer_reader.specs.declared.answer.Told.TheVariants.{Started, Ended, Opened, Closed, Read, Wrote}
-use Rattle.sx_answer_reader.specs.declared.answer.Told.TheVariants.{Resized}
-use Rattle.sx_answer_reader.specs.declared.answer.Told.TheVariants.{Locked, Unlocked, Disposed}
+use Rattle.sx_answer_reader.specs.declared.answer.Told.TheVariants.{Resized, Locked, Unlocked, Stats, Listed, Disposed}
 use Rattle.sx_answer_reader.specs.Limits.{IsNumber, IsCount, IsIndex}
 use Rattle.sx_answer_reader.specs.Refusals.{reason_word, message_words, FitsReason}
 use Rattle.sx_answer_reader.specs.declared.answer.Answer.{Answer}
@@ -27,9 +31,17 @@ fate_word Gone = codes "gone"
 abbrev pub made_word : Bool → List ℕ
 made_word made = if made then codes "created" else codes "opened"
 
+-- whether it is a directory, as a word
+abbrev pub dir_word : Bool → List ℕ
+dir_word dir = if dir then codes "dir" else codes "file"
+
 -- bytes in lower-case hexadecimal digits, and `-` for none
 abbrev pub hex_text : List ℕ → List ℕ
 hex_text bytes = if length bytes == 0 then codes "-" else encode_lower bytes
+
+-- an entry as a word: `file:LENGTH:NAME` or `dir:0:NAME`, the name in percent-encoding
+abbrev pub entry_word : Entry → List ℕ
+entry_word e = dir_word e.dir ++ (codes ":" ++ (decimal e.length ++ (codes ":" ++ percent_text e.name)))
 
 -- the words that tell what became of a call that was not refused
 unfoldable pub told_words : Told → List (List ℕ)
@@ -43,6 +55,11 @@ told_words (Wrote count length) = codes "write" ∷ decimal count ∷ decimal le
 told_words (Resized length) = codes "resize" ∷ decimal length ∷ []
 told_words Locked = codes "lock" ∷ []
 told_words Unlocked = codes "unlock" ∷ []
+told_words (Stats id dir length attributes created written changed) =
+    codes "stat" ∷ decimal id ∷ dir_word dir ∷ decimal length ∷ attributes_text attributes
+    ∷ decimal created ∷ decimal written ∷ decimal changed ∷ []
+told_words (Listed entries next) =
+    codes "list" ∷ decimal (length entries) ∷ next_text next ∷ map entry_word entries
 told_words Disposed = codes "dispose" ∷ []
 
 -- why a call was not appended to the history, in words behind `ERR`
@@ -63,6 +80,10 @@ words_of (Stopped stop) = codes "ERR" ∷ stop_words stop
 unfoldable pub told_line : Answer → List ℕ
 told_line answer = join_with_byte 32 (words_of answer)
 
+-- an entry's name is a text, its length is a number, and a directory's is 0
+abbrev pub FitsEntry : Entry → Type 0
+FitsEntry e = (is_utf8 e.name ≡ true) × IsNumber e.length × (e.dir ≡ true → e.length ≡ 0)
+
 -- the numbers and bytes of what is told fit their fields
 abbrev pub FitsTold : Told → Type 0
 FitsTold (Started session) = IsCount session
@@ -74,6 +95,9 @@ FitsTold (Wrote count length) = IsCount count × IsNumber length
 FitsTold (Resized length) = IsNumber length
 FitsTold Locked = ⊤
 FitsTold Unlocked = ⊤
+FitsTold (Stats id dir length attributes created written changed) =
+    IsNumber id × IsNumber length × IsNumber created × IsNumber written × IsNumber changed
+FitsTold (Listed entries next) = All FitsEntry entries × IsNumber (length entries) × (is_utf8 next ≡ true)
 FitsTold Disposed = ⊤
 
 -- the numbers of a stop fit their fields

@@ -1,5 +1,6 @@
 -- What the answers of a session's door tell.
-use Rattle.std.specs.Prelude.{codes, ℕ, ◌≡◌, ◌-◌, ◌++◌, Bool, Option, Some, None, option_map, IfSome}
+use Rattle.std.specs.Prelude.{codes, ℕ, ◌≡◌, ◌-◌, ◌++◌, Bool, Option, Some, None, option_map, IfSome, map}
+use Rattle.std.specs.Prelude.{if◌then◌else◌}
 use Rattle.sx_call.specs.declared.replies.Reply.{Reply}
 use Rattle.sx_call.specs.declared.replies.Reply.TheVariants.{Smb, Refused as RefusedReply}
 use Rattle.sx_call.specs.declared.refusals.Refusal.{Refusal}
@@ -14,7 +15,9 @@ use Rattle.sx_call.specs.declared.refusals.Refusal.TheVariants.{NoHandle as BadH
 use Rattle.sx_call.specs.declared.replies.SmbReply.{SmbReply}
 use Rattle.sx_call.specs.declared.replies.SmbReply.TheVariants.{Started as StartReply, Ended as EndReply}
 use Rattle.sx_call.specs.declared.replies.SmbReply.TheVariants.{Opened as OpenReply, Closed as CloseReply}
-use Rattle.sx_call.specs.declared.replies.SmbReply.TheVariants.{Bytes as BytesReply}
+use Rattle.sx_call.specs.declared.replies.SmbReply.TheVariants.{Bytes as BytesReply, Stats as StatsReply}
+use Rattle.sx_call.specs.declared.replies.SmbReply.TheVariants.{Names as NamesReply}
+use Rattle.sx_names.specs.declared.page.NameItem.{NameItem}
 use Rattle.sx_call.specs.declared.replies.SmbReply.TheVariants.{Wrote as WriteReply, Resized as ResizeReply}
 use Rattle.sx_call.specs.declared.replies.SmbReply.TheVariants.{Locked as LockReply, Unlocked as UnlockReply}
 use Rattle.sx_call.specs.declared.replies.SmbReply.TheVariants.{Disposed as DisposeReply}
@@ -22,10 +25,10 @@ use Rattle.sx_lines.specs.declared.answer.LineAnswer.{LineAnswer}
 use Rattle.sx_lines.specs.declared.answer.LineAnswer.TheVariants.{Core, Syntax as SyntaxAnswer, Long as LongAnswer}
 use Rattle.sx_lines.specs.declared.answer.LineAnswer.TheVariants.{Stop as StopAnswer}
 use Rattle.sx_lines.specs.Answers.{answer_line}
+use Rattle.sx_answer_reader.specs.declared.answer.Entry.{Entry}
 use Rattle.sx_answer_reader.specs.declared.answer.Told.{Told}
 use Rattle.sx_answer_reader.specs.declared.answer.Told.TheVariants.{Started, Ended, Opened, Closed, Read, Wrote}
-use Rattle.sx_answer_reader.specs.declared.answer.Told.TheVariants.{Resized}
-use Rattle.sx_answer_reader.specs.declared.answer.Told.TheVariants.{Locked, Unlocked, Disposed}
+use Rattle.sx_answer_reader.specs.declared.answer.Told.TheVariants.{Resized, Locked, Unlocked, Stats, Listed, Disposed}
 use Rattle.sx_answer_reader.specs.declared.answer.Answer.{Answer}
 use Rattle.sx_answer_reader.specs.declared.answer.Answer.TheVariants.{Done, Refused, Syntax, Long, Stop}
 use Rattle.sx_answer_reader.specs.declared.reason.Reason.{Reason}
@@ -36,19 +39,25 @@ use Rattle.sx_answer_reader.specs.declared.reason.Reason.TheVariants.{NotLocked,
 use Rattle.sx_answer_reader.specs.declared.reason.Reason.TheVariants.{OpensFull, NoHandle, LacksAccess}
 use Rattle.sx_answer_reader.specs.Answers.{told_line}
 
--- what a reply tells, where it is one of those that are read here
-unfoldable pub told_of : SmbReply → Option Told
-told_of (StartReply session) = Some (Started session)
-told_of (EndReply closed) = Some (Ended closed)
-told_of (OpenReply index made id length) = Some (Opened index made id length)
-told_of (CloseReply fate) = Some (Closed fate)
-told_of (BytesReply view) = Some (Read view)
-told_of (WriteReply count length) = Some (Wrote count length)
-told_of (ResizeReply length) = Some (Resized length)
-told_of LockReply = Some Locked
-told_of UnlockReply = Some Unlocked
-told_of DisposeReply = Some Disposed
-told_of reply = None
+-- what a name of a page tells: not its id, and of a directory no length
+abbrev pub entry_of : NameItem → Entry
+entry_of item = record { dir = item.dir; length = if item.dir then 0 else item.length; name = item.name }
+
+-- what a reply tells
+unfoldable pub told_of : SmbReply → Told
+told_of (StartReply session) = Started session
+told_of (EndReply closed) = Ended closed
+told_of (OpenReply index made id length) = Opened index made id length
+told_of (CloseReply fate) = Closed fate
+told_of (BytesReply view) = Read view
+told_of (WriteReply count length) = Wrote count length
+told_of (ResizeReply length) = Resized length
+told_of LockReply = Locked
+told_of UnlockReply = Unlocked
+told_of (StatsReply id dir length attributes created written changed) =
+    Stats id dir length attributes created written changed
+told_of (NamesReply page) = Listed (map entry_of page.items) page.next
+told_of DisposeReply = Disposed
 
 -- why a call was refused, where sessions are refused so; a lock in the way is told by its bytes, not by its kind
 unfoldable pub reason_of : Bool → Refusal → Option Reason
@@ -72,11 +81,11 @@ reason_of locking refusal = None
 
 -- the same of a reply at its place, to a call that locks or to another
 unfoldable pub reply_told : ℕ → Reply → Bool → Option Answer
-reply_told place (Smb reply) locking = option_map (Done place) (told_of reply)
+reply_told place (Smb reply) locking = Some (Done place (told_of reply))
 reply_told place (RefusedReply refusal) locking = option_map (Refused place) (reason_of locking refusal)
 reply_told place reply locking = None
 
--- what a door's answer tells, where it is one of those that are read here
+-- what a door's answer tells, where it is a session's
 unfoldable pub answer_told : LineAnswer → Option Answer
 answer_told (Core place reply locking) = reply_told place reply locking
 answer_told (SyntaxAnswer at) = Some (Syntax at)

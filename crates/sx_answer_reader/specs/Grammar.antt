@@ -7,17 +7,19 @@ use Rattle.sx_lines.specs.declared.line.TheConstants.{LINE_LIMIT}
 use Rattle.sx_lines.specs.Reading.{when_some}
 use Rattle.sx_lines.specs.Words.{first_word, behind_first, next_word, behind_next}
 use Rattle.sx_answer_reader.specs.Words.{end_of, number, count, index, choice, fate, bytes_of, found}
+use Rattle.sx_answer_reader.specs.Attributes.{attributes_of}
+use Rattle.sx_answer_reader.specs.Entries.{entries_of, next_of}
 use Rattle.sx_answer_reader.specs.Messages.{message}
 use Rattle.sx_answer_reader.specs.Refusals.{reason_word}
 use Rattle.sx_answer_reader.specs.declared.answer.Told.{Told}
 use Rattle.sx_answer_reader.specs.declared.answer.Told.TheVariants.{Started, Ended, Opened, Closed}
 use Rattle.sx_answer_reader.specs.declared.answer.Told.TheVariants.{Read as BytesRead, Wrote, Resized}
-use Rattle.sx_answer_reader.specs.declared.answer.Told.TheVariants.{Locked, Unlocked, Disposed}
+use Rattle.sx_answer_reader.specs.declared.answer.Told.TheVariants.{Locked, Unlocked, Stats, Listed, Disposed}
 use Rattle.sx_answer_reader.specs.declared.answer.Answer.{Answer}
 use Rattle.sx_answer_reader.specs.declared.answer.Answer.TheVariants.{Done, Refused, Syntax, Long, Stop as Stopped}
 use Rattle.sx_answer_reader.specs.declared.kind.Kind.{Kind}
 use Rattle.sx_answer_reader.specs.declared.kind.Kind.TheVariants.{Start, End, Open, Close, Read, Write}
-use Rattle.sx_answer_reader.specs.declared.kind.Kind.TheVariants.{Resize, Lock, Unlock, Dispose}
+use Rattle.sx_answer_reader.specs.declared.kind.Kind.TheVariants.{Resize, Lock, Unlock, Stat, List as Lists, Dispose}
 
 -- `start SESSION`
 unfoldable pub started : List ℕ → Option Told
@@ -83,6 +85,35 @@ resized length =
     when_some (end_of (behind_next length)) (λ _.
     Some (Resized bytes)))
 
+-- `stat ID file|dir LENGTH ATTRIBUTES CREATED WRITTEN CHANGED`
+unfoldable pub stats : List ℕ → Option Told
+stats id =
+    let kind = behind_next id in
+    let length = behind_next kind in
+    let names = behind_next length in
+    let creation = behind_next names in
+    let write = behind_next creation in
+    let change = behind_next write in
+    when_some (number id) (λ node.
+    when_some (choice (codes "dir") (codes "file") kind) (λ dir.
+    when_some (number length) (λ bytes.
+    when_some (attributes_of (next_word names)) (λ attributes.
+    when_some (number creation) (λ created.
+    when_some (number write) (λ written.
+    when_some (number change) (λ changed.
+    when_some (end_of (behind_next change)) (λ _.
+    Some (Stats node dir bytes attributes created written changed)))))))))
+
+-- `list N NEXT` and the entries
+unfoldable pub listed : List ℕ → Option Told
+listed n =
+    let following = behind_next n in
+    let first = behind_next following in
+    when_some (number n) (λ count.
+    when_some (entries_of count first) (λ entries.
+    when_some (next_of (next_word following)) (λ next.
+    Some (Listed entries next))))
+
 -- a word that stands alone
 unfoldable pub bare : Told → List ℕ → Option Told
 bare told behind = when_some (end_of behind) (λ _. Some told)
@@ -98,6 +129,8 @@ told_by Write behind = wrote behind
 told_by Resize behind = resized behind
 told_by Lock behind = bare Locked behind
 told_by Unlock behind = bare Unlocked behind
+told_by Stat behind = stats behind
+told_by Lists behind = listed behind
 told_by Dispose behind = bare Disposed behind
 
 -- the words with which calls are told
@@ -106,7 +139,7 @@ kind_of word =
     found (
     (codes "start", Start) ∷ (codes "end", End) ∷ (codes "open", Open) ∷ (codes "close", Close)
     ∷ (codes "read", Read) ∷ (codes "write", Write) ∷ (codes "resize", Resize) ∷ (codes "lock", Lock)
-    ∷ (codes "unlock", Unlock) ∷ (codes "dispose", Dispose) ∷ [])
+    ∷ (codes "unlock", Unlock) ∷ (codes "stat", Stat) ∷ (codes "list", Lists) ∷ (codes "dispose", Dispose) ∷ [])
     word
 
 -- what a call is told, behind the place of its entry

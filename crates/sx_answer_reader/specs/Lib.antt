@@ -1,5 +1,7 @@
 pub mod Answers
+pub mod Attributes
 pub mod Doors
+pub mod Entries
 pub mod Grammar
 pub mod Limits
 pub mod Messages

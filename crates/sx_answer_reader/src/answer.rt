@@ -5,6 +5,18 @@ use std::alloc::AllocError;
 use sx_base::{Items, NoMemory};
 use sx_call::{Fate, Stop};
 use sx_guard::HandleIndex;
+use sx_names::{Attributes, Text};
+
+/// A name in a page of a directory's names.
+#[derive(Debug, Drop, PartialEq)]
+pub struct Entry {
+    /// Whether it is a directory's.
+    pub dir: bool,
+    /// The file's length in bytes, and 0 for a directory.
+    pub length: u64,
+    /// The name as it is kept.
+    pub name: Text,
+}
 
 /// What a session's call is told, where it was not refused.
 #[derive(Debug, Drop)]
@@ -56,6 +68,30 @@ pub enum Told {
     Locked,
     /// The lock is removed.
     Unlocked,
+    /// What the file or directory is.
+    Stats {
+        /// Its id.
+        id: u64,
+        /// Whether it is a directory.
+        dir: bool,
+        /// Its length in bytes, and 0 for a directory.
+        length: u64,
+        /// Its attributes.
+        attributes: Attributes,
+        /// Its creation time, in ticks of 100 ns since 1970.
+        created: u64,
+        /// Its last write time, in ticks.
+        written: u64,
+        /// Its change time, in ticks.
+        changed: u64,
+    },
+    /// A page of the directory's names.
+    Listed {
+        /// The names.
+        entries: Items<Entry>,
+        /// The name in which the next page begins. It is empty at the end.
+        next: Text,
+    },
     /// The handle's mark for delete on close is set or taken off.
     Disposed,
 }
@@ -91,7 +127,7 @@ pub enum Answer {
 /// Why a line was not read.
 #[derive(Clone, Copy, Debug, PartialEq, Eq)]
 pub enum Unread {
-    /// It is the line of no answer that is read here.
+    /// It is the line of no answer.
     NoAnswer,
     /// No memory was left to keep what is told.
     NoMemory,

@@ -23,6 +23,10 @@ pub(crate) enum Kind {
     Lock,
     /// `unlock`
     Unlock,
+    /// `stat`
+    Stat,
+    /// `list`
+    List,
     /// `dispose`
     Dispose,
 }
@@ -50,6 +54,10 @@ pub(crate) fn kind_of(word: &[u8]) -> Option<Kind>
         Some(Kind::Lock)
     } else if word == b"unlock".as_slice() {
         Some(Kind::Unlock)
+    } else if word == b"stat".as_slice() {
+        Some(Kind::Stat)
+    } else if word == b"list".as_slice() {
+        Some(Kind::List)
     } else if word == b"dispose".as_slice() {
         Some(Kind::Dispose)
     } else {

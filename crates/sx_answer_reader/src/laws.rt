@@ -1,16 +1,19 @@
 //! That what a session's door prints is read back.
-ghost use Rattle.std.specs.Prelude.{IfSome, option_map, ◌-◌, ◌<◌, length, get_or};
+ghost use Rattle.std.specs.Prelude.{IfSome, option_map, ◌-◌, ◌<◌, length, get_or, map};
 ghost use Rattle.hex.specs.Hex.{IsBytes};
-ghost use Rattle.sx_answer_reader.specs.Answers.{Fits, FitsStop};
+ghost use Rattle.sx_answer_reader.specs.Answers.{Fits, FitsEntry, FitsTold, FitsStop};
+ghost use Rattle.std.specs.List.{All};
+ghost use Rattle.sx_answer_reader.specs.declared.answer.Told.TheVariants.{Listed};
 ghost use Rattle.sx_answer_reader.specs.Limits.{IsNumber};
 ghost use Rattle.sx_answer_reader.specs.Refusals.{IsHandle};
 ghost use Rattle.sx_answer_reader.specs.declared.answer.Answer.TheVariants.{Done, Refused};
-ghost use Rattle.sx_answer_reader.specs.Doors.{told_of, reason_of, reply_told, answer_told, IsLineOf};
+ghost use Rattle.sx_answer_reader.specs.Doors.{entry_of, told_of, reason_of, reply_told, answer_told, IsLineOf};
 
 use sx_call::{Refusal, Reply, SmbReply, Stop};
 use sx_extent::View;
 use sx_guard::{HandleId, Held};
 use sx_lines::LineAnswer;
+use sx_names::{NameItem, NamesPage};
 
 /// What a session's door prints for an answer is the line of what the answer tells, with a line feed behind it, and
 /// its numbers and bytes fit: so `read_line` reads it back as exactly this. It changes nothing.
@@ -29,7 +32,7 @@ fn is_line_of(answer: &LineAnswer)
     let _answer = answer;
 }
 
-/// What the types of an answer's numbers keep. It does nothing.
+/// What the types of an answer's numbers keep. It changes nothing.
 #[tactic(auto, unfolding(crate::specs::Doors::answer_told))]
 fn answer_fits(answer: &LineAnswer)
     ensures { IfSome (answer_told answer.now) Fits }
@@ -66,7 +69,7 @@ fn stop_fits(stop: &Stop)
     }
 }
 
-/// What the types of a reply's numbers keep. It does nothing.
+/// What the types of a reply's numbers keep. It changes nothing.
 #[tactic(auto, unfolding(crate::specs::Doors::reply_told))]
 fn reply_fits(place: u64, reply: &Reply, locking: bool)
     ensures { IfSome (reply_told place reply.now locking) Fits }
@@ -99,10 +102,37 @@ fn view_fits(view: &View)
     }
 }
 
+/// What the type of a name in a page keeps. It does nothing.
+fn entry_fits(item: &NameItem)
+    ensures { FitsEntry (entry_of item.now) }
+{
+    let _length = item.length;
+    let _name = item.name.bytes();
+}
+
+/// What the types of a page's names keep. It changes nothing.
+fn entries_fit(items: &[NameItem])
+    ensures entries { All (λ item. FitsEntry (entry_of item)) items.now }
+    ensures count { IsNumber (length items.now) }
+{
+    let _count = items.len();
+    for item in items {
+        entry_fits(item);
+    }
+}
+
+/// What the types of a page keep. It changes nothing.
+fn page_fits(page: &NamesPage)
+    ensures { FitsTold (Listed (map entry_of page.now.items) page.now.next) }
+{
+    entries_fit(page.items.as_slice());
+    let _next = page.next.bytes();
+}
+
 /// What the types of the numbers that are told keep. It changes nothing.
 #[tactic(auto, unfolding(crate::specs::Doors::told_of))]
 fn told_fits(place: u64, reply: &SmbReply)
-    ensures { IfSome (option_map (Done place) (told_of reply.now)) Fits }
+    ensures { Fits (Done place (told_of reply.now)) }
 {
     match reply {
         SmbReply::Started { session } => {
@@ -124,10 +154,23 @@ fn told_fits(place: u64, reply: &SmbReply)
         SmbReply::Bytes { view } => view_fits(view),
         SmbReply::Wrote { count, length } => {
             let _count = *count;
-            let _length = *length;
+            number_fits(*length);
         }
-        SmbReply::Resized { length } => {
-            let _length = *length;
+        SmbReply::Resized { length } => number_fits(*length),
+        SmbReply::Names { page } => page_fits(page),
+        SmbReply::Stats {
+            id,
+            length,
+            created,
+            written,
+            changed,
+            ..
+        } => {
+            number_fits(*id);
+            number_fits(*length);
+            number_fits(created.ticks());
+            number_fits(written.ticks());
+            number_fits(changed.ticks());
         }
         _ => {}
     }

@@ -2,10 +2,14 @@
 #![tactic(auto)]
 
 mod answer;
+mod attributes;
 mod bytes;
+mod entries;
+mod joined;
 mod kind;
 mod laws;
 mod messages;
+mod names;
 mod numbers;
 mod reading;
 mod reason;
@@ -13,7 +17,7 @@ mod subject;
 mod told;
 mod words;
 
-pub use answer::{Answer, Told, Unread};
+pub use answer::{Answer, Entry, Told, Unread};
 pub use laws::printed_answers_are_told;
 pub use reading::read_line;
 pub use reason::Reason;

@@ -137,8 +137,8 @@ fn answer_of(alloc: Global, line: &[u8]) -> Result<Answer, Unread>
 /// one answer that has this line.
 ///
 /// `NoAnswer` says that no answer has it: one byte more or less, another space, a leading zero or a digit in the other
-/// case suffice. `NoMemory` comes where no memory is left: bytes that are told are kept, and written once more to be
-/// compared with the line. No other answer takes memory.
+/// case suffice. `NoMemory` comes where no memory is left: bytes and names that are told are kept, and these and
+/// attributes are written once more to be compared with the line. No other answer takes memory.
 pub fn read_line(alloc: Global, line: &[u8]) -> Result<Answer, Unread>
     ensures { IsRead result line.now }
 {

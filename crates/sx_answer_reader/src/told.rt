@@ -1,12 +1,15 @@
 //! What calls that were not refused are told, call by call.
 ghost use Rattle.sx_answer_reader.specs.Reading.{Reads};
 ghost use Rattle.sx_answer_reader.specs.Grammar.{started, ended, opened, closed, bytes_read, read, wrote, resized};
-ghost use Rattle.sx_answer_reader.specs.Grammar.{bare, told_by, told};
+ghost use Rattle.sx_answer_reader.specs.Grammar.{stats, listed, bare, told_by, told};
 ghost use Rattle.sx_answer_reader.specs.declared.answer.Told.TheVariants as variants;
 
 use crate::answer::{Told, Unread};
+use crate::attributes::attributes_in;
 use crate::bytes::bytes_in;
+use crate::entries::entries_of;
 use crate::kind::{Kind, kind_of};
+use crate::names::next_of;
 use crate::words::{behind_next, choice, count, end_of, fate, index, next_word, number};
 use std::alloc::Global;
 
@@ -128,6 +131,49 @@ fn unlocked(behind: &[u8]) -> Result<Told, Unread>
     Ok(Told::Unlocked)
 }
 
+/// `stat ID file|dir LENGTH ATTRIBUTES CREATED WRITTEN CHANGED`
+#[tactic(auto, unfolding(crate::specs::Grammar::stats))]
+fn stats(alloc: Global, id: &[u8]) -> Result<Told, Unread>
+    ensures { Reads result (stats id.now) }
+{
+    let kind = behind_next(id);
+    let length = behind_next(kind);
+    let names = behind_next(length);
+    let creation = behind_next(names);
+    let write = behind_next(creation);
+    let change = behind_next(write);
+    let node = number(id)?;
+    let dir = choice(b"dir", b"file", kind)?;
+    let bytes = number(length)?;
+    let attributes = attributes_in(alloc, names)?;
+    let created = number(creation)?;
+    let written = number(write)?;
+    let changed = number(change)?;
+    end_of(behind_next(change))?;
+    Ok(Told::Stats {
+        id: node,
+        dir,
+        length: bytes,
+        attributes,
+        created,
+        written,
+        changed,
+    })
+}
+
+/// `list N NEXT` and the entries
+#[tactic(auto, unfolding(crate::specs::Grammar::listed))]
+fn listed(alloc: Global, n: &[u8]) -> Result<Told, Unread>
+    ensures { Reads result (listed n.now) }
+{
+    let following = behind_next(n);
+    let first = behind_next(following);
+    let count = number(n)?;
+    let entries = entries_of(alloc, count, first)?;
+    let next = next_of(alloc, next_word(following))?;
+    Ok(Told::Listed { entries, next })
+}
+
 /// `dispose`
 #[tactic(auto, unfolding(crate::specs::Grammar::bare))]
 fn disposed(behind: &[u8]) -> Result<Told, Unread>
@@ -152,6 +198,8 @@ fn told_by(alloc: Global, kind: Kind, behind: &[u8]) -> Result<Told, Unread>
         Kind::Resize => resized(behind),
         Kind::Lock => locked(behind),
         Kind::Unlock => unlocked(behind),
+        Kind::Stat => stats(alloc, behind),
+        Kind::List => listed(alloc, behind),
         Kind::Dispose => disposed(behind),
     }
 }

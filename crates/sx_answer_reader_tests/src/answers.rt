@@ -2,8 +2,9 @@
 
 use std::alloc::Global;
 use std::process::Abort;
-use sx_answer_reader::{Answer, Told, read_line};
+use sx_answer_reader::{Answer, Entry, Told, read_line};
 use sx_call::{Fate, Stop};
+use sx_names::Attributes;
 
 /// The place and what is told of a line that says so.
 fn done(rt: &impl Abort, alloc: Global, line: &str, place: u64) -> Told {
@@ -63,6 +64,72 @@ fn was_read(rt: &impl Abort, told: &Told, wanted: &[u8]) {
     match told {
         Told::Read { bytes } => assert!(rt; bytes.as_slice() == wanted),
         _ => panic!(rt; "read"),
+    }
+}
+
+/// The attributes of which these are set, in their order.
+fn attributes(set: [bool; 9]) -> Attributes {
+    Attributes {
+        read_only: set[0],
+        hidden: set[1],
+        system: set[2],
+        archive: set[3],
+        temporary: set[4],
+        offline: set[5],
+        not_content_indexed: set[6],
+        no_scrub_data: set[7],
+        directory: set[8],
+    }
+}
+
+/// Panics unless these are the facts of a file or directory: its id, kind, length and three times.
+fn was_told(rt: &impl Abort, told: &Told, wanted: (u64, bool, u64, [u64; 3]), set: [bool; 9]) {
+    match told {
+        Told::Stats {
+            id,
+            dir,
+            length,
+            attributes: given,
+            created,
+            written,
+            changed,
+        } => {
+            assert!(rt; (*id, *dir, *length) == (wanted.0, wanted.1, wanted.2));
+            assert!(rt; [*created, *written, *changed] == wanted.3);
+            assert!(rt; *given == attributes(set));
+        }
+        _ => panic!(rt; "told"),
+    }
+}
+
+/// Panics unless this entry is a file or directory of this length and name.
+fn is_entry(rt: &impl Abort, entry: Option<&Entry>, dir: bool, length: u64, name: &str) {
+    match entry {
+        Some(entry) => {
+            assert!(rt; entry.dir == dir);
+            assert!(rt; entry.length == length);
+            assert!(rt; entry.name.bytes() == name.as_bytes(), "{name}");
+        }
+        None => panic!(rt; "{name}"),
+    }
+}
+
+/// Panics unless so many entries were told, and the next page begins in this name.
+fn was_listed(rt: &impl Abort, told: &Told, count: usize, name: &str) {
+    match told {
+        Told::Listed { entries, next } => {
+            assert!(rt; entries.len() == count);
+            assert!(rt; next.bytes() == name.as_bytes());
+        }
+        _ => panic!(rt; "listed"),
+    }
+}
+
+/// The entry at a place of those that are told.
+fn entry_at(told: &Told, at: usize) -> Option<&Entry> {
+    match told {
+        Told::Listed { entries, .. } => entries.get(at),
+        _ => None,
     }
 }
 
@@ -142,6 +209,79 @@ fn bytes_are_read(rt: HostRuntime) {
         &rt,
         &done(&rt, rt.alloc(), "OK 4 read 3 00ff0a", 4),
         &[0, 255, 10],
+    );
+}
+
+#[test]
+fn files_and_directories_are_told(rt: HostRuntime) {
+    let none = [false; 9];
+    let read_only = [true, true, false, false, false, false, false, false, false];
+    let directory = [false, false, false, false, false, false, false, false, true];
+    was_told(
+        &rt,
+        &done(&rt, rt.alloc(), "OK 5 stat 7 file 10 None 1 2 3", 5),
+        (7, false, 10, [1, 2, 3]),
+        none,
+    );
+    was_told(
+        &rt,
+        &done(
+            &rt,
+            rt.alloc(),
+            "OK 5 stat 7 file 0 ReadOnly|Hidden 1 2 3",
+            5,
+        ),
+        (7, false, 0, [1, 2, 3]),
+        read_only,
+    );
+    was_told(
+        &rt,
+        &done(&rt, rt.alloc(), "OK 5 stat 1 dir 0 Directory 0 0 0", 5),
+        (1, true, 0, [0, 0, 0]),
+        directory,
+    );
+}
+
+#[test]
+fn every_attribute_is_told(rt: HostRuntime) {
+    let line = "OK 5 stat 7 file 0 ReadOnly|Hidden|System|Archive|Temporary|Offline|\
+        NotContentIndexed|NoScrubData|Directory 1 2 3";
+    was_told(
+        &rt,
+        &done(&rt, rt.alloc(), line, 5),
+        (7, false, 0, [1, 2, 3]),
+        [true; 9],
+    );
+}
+
+#[test]
+fn empty_pages_are_told(rt: HostRuntime) {
+    was_listed(&rt, &done(&rt, rt.alloc(), "OK 6 list 0 *", 6), 0, "");
+    was_listed(
+        &rt,
+        &done(&rt, rt.alloc(), "OK 6 list 0 b%20c", 6),
+        0,
+        "b c",
+    );
+}
+
+#[test]
+fn names_are_told(rt: HostRuntime) {
+    let told = done(
+        &rt,
+        rt.alloc(),
+        "OK 6 list 3 %C3%A9 file:5:a.txt dir:0:sub file:18446744073709551615:b%3Ac",
+        6,
+    );
+    was_listed(&rt, &told, 3, "é");
+    is_entry(&rt, entry_at(&told, 0), false, 5, "a.txt");
+    is_entry(&rt, entry_at(&told, 1), true, 0, "sub");
+    is_entry(
+        &rt,
+        entry_at(&told, 2),
+        false,
+        18_446_744_073_709_551_615,
+        "b:c",
     );
 }
 

@@ -69,6 +69,44 @@ fn bytes_are_counted_and_in_lower_case(rt: HostRuntime) {
 }
 
 #[test]
+fn attributes_stand_once_and_in_order(rt: HostRuntime) {
+    is_no_answer(&rt, rt.alloc(), "OK 5 stat 7 file 0 Hidden|ReadOnly 1 2 3");
+    is_no_answer(&rt, rt.alloc(), "OK 5 stat 7 file 0 Hidden|Hidden 1 2 3");
+    is_no_answer(&rt, rt.alloc(), "OK 5 stat 7 file 0 Hidden| 1 2 3");
+    is_no_answer(&rt, rt.alloc(), "OK 5 stat 7 file 0 |Hidden 1 2 3");
+    is_no_answer(&rt, rt.alloc(), "OK 5 stat 7 file 0 Hidden|None 1 2 3");
+    is_no_answer(&rt, rt.alloc(), "OK 5 stat 7 file 0 hidden 1 2 3");
+    is_no_answer(&rt, rt.alloc(), "OK 5 stat 7 file 0  1 2 3");
+    is_no_answer(&rt, rt.alloc(), "OK 5 stat 7 link 0 None 1 2 3");
+    is_no_answer(&rt, rt.alloc(), "OK 5 stat 7 file 0 None 1 2");
+    is_no_answer(&rt, rt.alloc(), "OK 5 stat 7 file 0 None 1 2 3 4");
+}
+
+#[test]
+fn names_are_counted_and_encoded_in_one_way(rt: HostRuntime) {
+    is_no_answer(&rt, rt.alloc(), "OK 6 list 1 *");
+    is_no_answer(&rt, rt.alloc(), "OK 6 list 0 * dir:0:a");
+    is_no_answer(&rt, rt.alloc(), "OK 6 list 2 * dir:0:a");
+    is_no_answer(&rt, rt.alloc(), "OK 6 list 18446744073709551615 * dir:0:a");
+    is_no_answer(&rt, rt.alloc(), "OK 6 list 0 ");
+    is_no_answer(&rt, rt.alloc(), "OK 6 list 0 %2A%2a");
+    is_no_answer(&rt, rt.alloc(), "OK 6 list 1 * dir:1:a");
+    is_no_answer(&rt, rt.alloc(), "OK 6 list 1 * file:05:a");
+    is_no_answer(&rt, rt.alloc(), "OK 6 list 1 * file:5");
+    is_no_answer(&rt, rt.alloc(), "OK 6 list 1 * link:5:a");
+}
+
+#[test]
+fn names_are_texts(rt: HostRuntime) {
+    is_no_answer(&rt, rt.alloc(), "OK 6 list 1 * file:5:a:b");
+    is_no_answer(&rt, rt.alloc(), "OK 6 list 1 * file:5:%61");
+    is_no_answer(&rt, rt.alloc(), "OK 6 list 1 * file:5:%c3%a9");
+    is_no_answer(&rt, rt.alloc(), "OK 6 list 1 * file:5:%FF");
+    is_no_answer(&rt, rt.alloc(), "OK 6 list 1 * file:5:a%2");
+    is_no_answer(&rt, rt.alloc(), "OK 6 list 0 %FF");
+}
+
+#[test]
 fn words_and_messages_of_refusals_go_together(rt: HostRuntime) {
     is_no_answer(&rt, rt.alloc(), "ERR BAD_NETWORK_NAME 7 no name");
     is_no_answer(&rt, rt.alloc(), "ERR NOT_A_DIRECTORY 7 directory id 5");
