@@ -1,30 +1,13 @@
 -- A second list that stands beside a first in an order by file, so that the part of each file is the same in both.
-use Rattle.std.proofs.Common.{◌≡◌, ◌∙◌, sym, ap, refl, ℕ, Bool, true, false, ◌&&◌, if◌then◌else◌, List, [], ◌∷◌, option_map, filter, find, map, length, AllPairs}
-use Rattle.std.specs.List.{list_any}
+use Rattle.std.proofs.Common.{◌≡◌, ◌∙◌, sym, ap, refl, ℕ, Bool, true, false, ◌&&◌, List, option_map, filter, find, length, AllPairs}
 use Rattle.sx_guard.specs.Ordered.{insert_by}
 use Rattle.sx_guard.specs.Parts.{part_of}
-use Rattle.sx_guard.proofs.Parts.{part_find, part_any, part_count, part_insert, part_insert_other}
-
--- a filter that looks through the view, of a part
-filter_by : {X Y : Type 0} (keep : X → Bool) (view : X → Y) (q : Y → Bool) (x : X) (xs : List X) (k b : Bool) → keep x ≡ k → q (view x) ≡ b
-    → part_of keep view (filter (λ y. q (view y)) xs) ≡ filter q (part_of keep view xs)
-    → part_of keep view (if b then x ∷ filter (λ y. q (view y)) xs else filter (λ y. q (view y)) xs) ≡ filter q (map view (if k then x ∷ filter keep xs else filter keep xs))
-filter_by {Y = Y} keep view q x xs true true own is rest = rw (own, is) (ap (λ (zs : List Y). view x ∷ zs) rest)
-filter_by keep view q x xs true false own is rest = rw is rest
-filter_by keep view q x xs false true own is rest = rw own rest
-filter_by keep view q x xs false false own is rest = rest
-
-pub part_filter : {X Y : Type 0} (keep : X → Bool) (view : X → Y) (q : Y → Bool) (xs : List X) → part_of keep view (filter (λ x. q (view x)) xs) ≡ filter q (part_of keep view xs)
-part_filter keep view q [] = refl
-part_filter keep view q (x ∷ xs) = filter_by keep view q x xs (keep x) (q (view x)) refl refl (part_filter keep view q xs)
+use Rattle.sx_guard.proofs.Parts.{part_find, part_count, part_insert, part_insert_other}
 
 module _ {X E Y : Type 0} (on : ℕ → X → Bool) (view : X → Y) (at : ℕ → E → Bool) (look : E → Y) where
   -- the part of each file is the same in both lists
   abbrev pub IsBeside : List X → List E → Type 0
   IsBeside xs es = (id : ℕ) → part_of (at id) look es ≡ part_of (on id) view xs
-
-  pub beside_none : IsBeside [] []
-  beside_none id = refl
 
   -- Laws on one item more, put into its place in both.
   module _ (R : X → X → Type 0) (S : E → E → Type 0) (before : X → X → Bool) (behind : E → E → Bool) (within : Y → Y → Bool) (x : X) (e : E)
@@ -48,18 +31,10 @@ module _ {X E Y : Type 0} (on : ℕ → X → Bool) (view : X → Y) (at : ℕ �
       pub beside_put : (xs : List X) (es : List E) → AllPairs R xs → AllPairs S es → IsBeside xs es → IsBeside (insert_by before x xs) (insert_by behind e es)
       beside_put xs es pairs pairs' beside = λ id. put_by id (on id x) xs es refl pairs pairs' beside
 
-  -- items taken from both by a test that both show
-  pub beside_drop : (q : Y → Bool) (xs : List X) (es : List E) → IsBeside xs es → IsBeside (filter (λ x. q (view x)) xs) (filter (λ e. q (look e)) es)
-  beside_drop q xs es beside = λ id. part_filter (at id) look q es ∙ ap (filter q) (beside id) ∙ sym (part_filter (on id) view q xs)
-
   -- what is found in a file's part of the second list is what is found among all of the first
   pub beside_find : (id : ℕ) (test : Y → Bool) (xs : List X) (es : List E) → IsBeside xs es
       → find test (part_of (at id) look es) ≡ option_map view (find (λ x. on id x && test (view x)) xs)
   beside_find id test xs es beside = ap (find test) (beside id) ∙ part_find (on id) view test xs
-
-  pub beside_any : (id : ℕ) (test : Y → Bool) (xs : List X) (es : List E) → IsBeside xs es
-      → list_any test (part_of (at id) look es) ≡ list_any (λ x. on id x && test (view x)) xs
-  beside_any id test xs es beside = ap (list_any test) (beside id) ∙ part_any (on id) view test xs
 
   pub beside_count : (id : ℕ) (xs : List X) (es : List E) → IsBeside xs es → length (filter (at id) es) ≡ length (filter (on id) xs)
   beside_count id xs es beside = sym (part_count (at id) look es) ∙ ap length (beside id) ∙ part_count (on id) view xs
