@@ -1,5 +1,5 @@
 //! An office without shares, the outside of its doors, and its close.
-ghost use Rattle.std.specs.Prelude.{◌≡◌};
+ghost use Rattle.std.specs.Prelude.{◌≡◌, Ok};
 
 use std::alloc::Global;
 use std::process::Abort;
@@ -63,3 +63,22 @@ pub(crate) fn closes<R: Abort + Wait>(rt: &R, office: Office, pass: Pass, entrie
 }
 
 pub(crate) fn let_go<T: Drop>(_value: T) {}
+
+/// The value of an answer that has one, or the test ends.
+pub(crate) fn made<T, E: Drop>(rt: &impl Abort, answer: Result<T, E>) -> T
+    ensures { answer ≡ Ok result }
+{
+    match answer {
+        Ok(value) => value,
+        Err(_) => panic!(rt; "no answer"),
+    }
+}
+
+/// The first of two values.
+pub(crate) fn first<A, B: Drop>(pair: (A, B)) -> A
+    ensures { result ≡ pair.0 }
+{
+    let (first, second) = pair;
+    let_go(second);
+    first
+}

@@ -1,11 +1,14 @@
 //! Opens, and the requests that meet them.
+ghost use Rattle.std.specs.Prelude.{◌≡◌};
+ghost use Rattle.sx_book.specs.Passes.{IsSamePass};
 
 use crate::asking::{SHARE, asks};
-use crate::opening::{begun, closes, new_year};
+use crate::opening::{Outside, begun, closes, new_year};
 use crate::saying::{before_requests, beside_a_session, ended, says, started};
 use std::alloc::Global;
 use std::process::Abort;
 use std::sync::Wait;
+use sx_book::{Office, Pass};
 
 /// A file that is made, written, read and closed, and read behind its close.
 pub(crate) const READ_AGAIN: &str = "\
@@ -117,7 +120,28 @@ const READ_BEHIND: &str = r#"GET /data/a.txt
 < Content-Length: 2
 = hi"#;
 
-/// Two sessions are started beside a share, each says its lines, and both end. The office has so many entries then.
+/// Two sessions are started, each says its lines, and both end.
+fn both_say_in<R: Abort + Wait>(
+    rt: &R,
+    alloc: Global,
+    office: &Office,
+    pass: &mut Pass,
+    outside: &mut Outside,
+    first_says: &str,
+    second_says: &str,
+)
+    requires own { pass.old.office ≡ office.now }
+    ensures same { IsSamePass pass.old pass.new }
+{
+    let first = started(rt, office, pass, outside);
+    let second = started(rt, office, pass, outside);
+    says(rt, alloc, office, pass, outside, &first, first_says);
+    says(rt, alloc, office, pass, outside, &second, second_says);
+    ended(rt, office, pass, outside, second);
+    ended(rt, office, pass, outside, first);
+}
+
+/// Two sessions beside a share say their lines. The office has so many entries then.
 fn both_say<R: Abort + Wait>(
     rt: &R,
     alloc: Global,
@@ -128,28 +152,15 @@ fn both_say<R: Abort + Wait>(
     let mut outside = new_year(rt, alloc, 0);
     let (office, mut pass) = begun(rt, alloc);
     asks(rt, alloc, &office, &mut pass, &mut outside, SHARE);
-    let first = started(rt, &office, &mut pass, &mut outside);
-    let second = started(rt, &office, &mut pass, &mut outside);
-    says(
+    both_say_in(
         rt,
         alloc,
         &office,
         &mut pass,
         &mut outside,
-        &first,
         first_says,
-    );
-    says(
-        rt,
-        alloc,
-        &office,
-        &mut pass,
-        &mut outside,
-        &second,
         second_says,
     );
-    ended(rt, &office, &mut pass, &mut outside, second);
-    ended(rt, &office, &mut pass, &mut outside, first);
     closes(rt, office, pass, entries);
 }
 

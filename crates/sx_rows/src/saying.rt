@@ -8,7 +8,7 @@ ghost use Rattle.sx_call.specs.declared.doors.Door.TheVariants.{InSession};
 ghost use Rattle.sx_lines.specs.Answers.{has_line};
 
 use crate::asking::{SHARE, asks, link, put, same};
-use crate::opening::{Outside, begun, closes, let_go, new_year};
+use crate::opening::{Outside, begun, closes, first, let_go, made, new_year};
 use std::alloc::Global;
 use std::process::Abort;
 use std::sync::Wait;
@@ -33,10 +33,8 @@ pub(crate) fn started<R: Abort + Wait>(
     ensures same { IsSamePass pass.old pass.new }
 {
     let now = outside.clock.now();
-    match office.start(rt, pass, now, 2_130_706_433) {
-        Ok((session, _)) => session,
-        Err(_) => panic!(rt; "no session"),
-    }
+    let answer = office.start(rt, pass, now, 2_130_706_433);
+    first(made(rt, answer))
 }
 
 /// The call that a line spells.
@@ -73,10 +71,10 @@ fn printed(rt: &impl Abort, alloc: Global, receipt: Receipt, locking: bool) -> M
         reply: receipt.reply,
         locking,
     };
-    match print_line(&mut sink, &answer) {
-        Ok(()) => sink,
-        Err(_) => panic!(rt; "no memory"),
-    }
+    let printed = print_line(&mut sink, &answer);
+    let_go(answer);
+    made(rt, printed);
+    sink
 }
 
 /// The line of a row, and its answer.

@@ -162,6 +162,25 @@ fn body(rt: &impl Abort, alloc: Global) -> Vec<u8> {
     body
 }
 
+/// Uploads so many pieces, one after another.
+fn upload_all<R: Abort + Wait>(
+    rt: &R,
+    alloc: Global,
+    office: &Office,
+    pass: &mut Pass,
+    outside: &mut Outside,
+    pieces: u64,
+    body: &[u8],
+)
+    requires own { pass.old.office ≡ office.now }
+    ensures held { KeepsSessions pass.old pass.new }
+    ensures same { IsSamePass pass.old pass.new }
+{
+    for number in 0..pieces {
+        upload(rt, alloc, office, pass, outside, number, body);
+    }
+}
+
 /// Uploads so many pieces between the requests of two tables. The office has so many entries then.
 fn uploads<R: Abort + Wait>(
     rt: &R,
@@ -175,9 +194,7 @@ fn uploads<R: Abort + Wait>(
     let (office, mut pass) = begun(rt, alloc);
     let body = body(rt, alloc);
     asks(rt, alloc, &office, &mut pass, &mut outside, made);
-    for number in 0..pieces {
-        upload(rt, alloc, &office, &mut pass, &mut outside, number, &body);
-    }
+    upload_all(rt, alloc, &office, &mut pass, &mut outside, pieces, &body);
     asks(rt, alloc, &office, &mut pass, &mut outside, behind);
     closes(rt, office, pass, entries);
 }
