@@ -73,12 +73,3 @@ pub(crate) fn made<T, E: Drop>(rt: &impl Abort, answer: Result<T, E>) -> T
         Err(_) => panic!(rt; "no answer"),
     }
 }
-
-/// The first of two values.
-pub(crate) fn first<A, B: Drop>(pair: (A, B)) -> A
-    ensures { result ≡ pair.0 }
-{
-    let (first, second) = pair;
-    let_go(second);
-    first
-}

@@ -8,7 +8,7 @@ ghost use Rattle.sx_call.specs.declared.doors.Door.TheVariants.{InSession};
 ghost use Rattle.sx_lines.specs.Answers.{has_line};
 
 use crate::asking::{SHARE, asks, link, put, same};
-use crate::opening::{Outside, begun, closes, first, let_go, made, new_year};
+use crate::opening::{Outside, begun, closes, let_go, made, new_year};
 use std::alloc::Global;
 use std::process::Abort;
 use std::sync::Wait;
@@ -33,8 +33,10 @@ pub(crate) fn started<R: Abort + Wait>(
     ensures same { IsSamePass pass.old pass.new }
 {
     let now = outside.clock.now();
-    let answer = office.start(rt, pass, now, 2_130_706_433);
-    first(made(rt, answer))
+    match office.start(rt, pass, now, 2_130_706_433) {
+        Ok((session, _)) => session,
+        Err(_) => panic!(rt; "no session"),
+    }
 }
 
 /// The call that a line spells.
