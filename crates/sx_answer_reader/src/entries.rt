@@ -1,5 +1,5 @@
 //! The names of a page, each as a word.
-ghost use Rattle.std.specs.Prelude.{◌≡◌, ◌≤◌, ◌&&◌, ◌==◌, not, position, length, drop};
+ghost use Rattle.std.specs.Prelude.{◌≡◌, ◌≤◌, ◌&&◌, ◌==◌, position, length, drop};
 ghost use Rattle.std.specs.List.{before_first, position_or_len};
 ghost use Rattle.sx_answer_reader.specs.Entries.{is_colon, behind_field, kind_in, length_in, colon_name, of_kind};
 ghost use Rattle.sx_answer_reader.specs.Entries.{entry_of, entries_of};

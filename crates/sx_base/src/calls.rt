@@ -1,5 +1,5 @@
 //! The calls of an object in memory, and which of them are to fail.
-ghost use Rattle.std.specs.Prelude.{◌≡◌, ◌+◌, ◌-◌, ◌^◌, ◌≤◌, OnOk, OnErr, IsErr, is_err, min};
+ghost use Rattle.std.specs.Prelude.{◌≡◌, ◌+◌, ◌-◌, ◌≤◌, OnOk, IsErr, is_err, min};
 ghost use Rattle.sx_base.specs.Causes.{HasCause};
 ghost use Rattle.sx_base.specs.Calls.{is_next_listed, most_calls, FailsAsListed};
 

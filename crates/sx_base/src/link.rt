@@ -1,5 +1,5 @@
 //! Both directions of a connection.
-ghost use Rattle.std.specs.Prelude.{◌≡◌, ℕ, List};
+ghost use Rattle.std.specs.Prelude.{◌≡◌, ℕ};
 ghost use Rattle.sx_base.specs.Link.{ReadKeeps, PutKeeps};
 
 use crate::fault::Failed;

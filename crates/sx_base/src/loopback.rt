@@ -1,5 +1,5 @@
 //! Links, listeners and dialers of TCP on 127.0.0.1.
-ghost use Rattle.std.specs.Prelude.{◌≡◌, List, ℕ, None, ⊤};
+ghost use Rattle.std.specs.Prelude.{◌≡◌, None, ⊤};
 
 use crate::dialer::Dialer;
 use crate::fault::Failed;

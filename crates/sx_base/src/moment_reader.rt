@@ -1,5 +1,5 @@
 //! Reading the text of a moment, with the place of its fault.
-ghost use Rattle.std.specs.Prelude.{◌≡◌, ◌<◌, ◌≤◌, ◌*◌, ◌++◌, ℕ, List, Result, Ok, IfOk, pos};
+ghost use Rattle.std.specs.Prelude.{◌≡◌, ◌<◌, ◌≤◌, ◌*◌, ℕ, List, Result, Ok, IfOk, pos};
 ghost use Rattle.sx_text.specs.Texts.{IsReading};
 ghost use Rattle.sx_text.specs.Given.{Reads};
 ghost use Rattle.sx_base.specs.Moment.{Day, TimeOfDay, Fields, greatest_written, IsCivilTime, IsMoment, IsWritten};

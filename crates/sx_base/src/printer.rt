@@ -1,5 +1,5 @@
 //! Printing without memory: texts, numbers and hexadecimal digits one behind another, gathered on the stack.
-ghost use Rattle.std.specs.Prelude.{◌≡◌, ◌++◌, ◌∷◌, [], OnOk};
+ghost use Rattle.std.specs.Prelude.{◌≡◌, ◌∷◌, [], OnOk};
 ghost use Rattle.std.specs.List.{flat_map};
 ghost use Rattle.sx_base.specs.Sink.{Prints};
 ghost use Rattle.sx_base.specs.Printer.{text_of, Gathers};

@@ -1,5 +1,5 @@
 //! The clock and the random source of the system.
-ghost use Rattle.std.specs.Prelude.{◌≡◌, ◌≤◌, ◌/◌, min, ⊤};
+ghost use Rattle.std.specs.Prelude.{◌≡◌, ◌/◌, min, ⊤};
 ghost use Rattle.sx_base.specs.Clock.{greatest_moment};
 
 use crate::clock::{Clock, GREATEST_MOMENT};

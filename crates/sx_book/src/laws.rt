@@ -1,5 +1,5 @@
 //! The laws of what calls come to in one history.
-ghost use Rattle.std.specs.Prelude.{◌≡◌, ◌++◌, ◌≤◌, ◌∷◌, ◌≢◌, [], ℕ, List, length};
+ghost use Rattle.std.specs.Prelude.{◌++◌, ◌≤◌, ◌∷◌, ◌≢◌, [], ℕ, List, length};
 ghost use Rattle.std.specs.List.{AllByRecursion};
 ghost use Rattle.sx_call.specs.declared.calls.Call.{Call};
 ghost use Rattle.sx_call.specs.declared.entries.Noted.{Noted};

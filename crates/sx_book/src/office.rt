@@ -1,5 +1,5 @@
 //! The office: one book, asked by many callers in turns.
-ghost use Rattle.std.specs.Prelude.{◌≡◌, ◌+◌, ◌≤◌, ◌<◌, ◌≢◌, true, Some, None, IfOk, IfErr, OnOk, OnErr, IsOk, Err};
+ghost use Rattle.std.specs.Prelude.{◌≡◌, ◌+◌, ◌≤◌, ◌<◌, ◌≢◌, Some, None, IfOk, IfErr, IsOk, Err};
 ghost use Rattle.std.specs.Prelude.{length, ℕ};
 ghost use Rattle.std.specs.List.{AllByRecursion};
 ghost use Rattle.std.specs.Option.{option_copied};
@@ -9,10 +9,8 @@ ghost use Rattle.sx_call.specs.declared.calls.Call.TheVariants as Call;
 ghost use Rattle.sx_call.specs.declared.replies.Reply.TheVariants.{Smb};
 ghost use Rattle.sx_call.specs.declared.replies.SmbReply.TheVariants.{Started};
 ghost use Rattle.sx_call.specs.declared.refusals.Stop.TheVariants as Stop;
-ghost use Rattle.sx_spec.specs.History.{wants};
-ghost use Rattle.sx_spec.specs.Step.{replay};
 ghost use Rattle.sx_turn.specs.declared.turn.SeatFault.TheVariants.{NoSeat};
-ghost use Rattle.sx_book.specs.Passes.{PassView, StandsIn, MayAsk, HoldsSession, Appends, AppendsNone, SawMore};
+ghost use Rattle.sx_book.specs.Passes.{StandsIn, MayAsk, HoldsSession, Appends, AppendsNone, SawMore};
 ghost use Rattle.sx_book.specs.Passes.{GrowsByOthers, IsSamePass, KeepsSessions, KeepsOtherSessions, pass_after_look};
 ghost use Rattle.sx_book.specs.Passes.{NumbersBelow, NumbersDiffer, OwnsAllNumbers, OwnsEachSeen, first_pass};
 ghost use Rattle.sx_book.specs.Passes.{new_pass, pass_pairs, after_meet, HasExactPlaces, caller_of, session_or_0};

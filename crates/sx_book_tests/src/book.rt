@@ -1,8 +1,6 @@
 //! The book alone: entries that stand in no session, and the history's limit. Calls in a session are tested by the
 //! door.
-ghost use Rattle.std.specs.Prelude.{◌≡◌, true};
-ghost use Rattle.sx_spec.specs.Account.{empty};
-ghost use Rattle.sx_spec.specs.History.{stands_in};
+ghost use Rattle.std.specs.Prelude.{true};
 
 use std::alloc::Global;
 use std::process::Abort;

@@ -4,8 +4,8 @@ ghost use Rattle.std.specs.Prelude.{◌≡◌, IfOk, map, true};
 ghost use Rattle.std.specs.List.{list_any};
 ghost use Rattle.sx_decode.specs.Reading.{Reads};
 ghost use Rattle.sx_decode.specs.Words.{is_word_in_blanks};
-ghost use Rattle.sx_decode.specs.Asked.{snapshot_moment, snapshot_named, snapshot_asked, or_empty, query_text};
-ghost use Rattle.sx_decode.specs.Asked.{prefix_asked, limited_page, page_size, page_asked};
+ghost use Rattle.sx_decode.specs.Asked.{snapshot_moment, snapshot_asked, or_empty, query_text};
+ghost use Rattle.sx_decode.specs.Asked.{prefix_asked, limited_page, page_asked};
 ghost use Rattle.sx_decode.specs.Asked.{includes_snapshots, snapshots_asked, asked_of};
 
 use crate::moments::moment_of;

@@ -1,7 +1,5 @@
 //! The content headers, and the digest of a body.
 
-ghost use Rattle.std.specs.Prelude.{◌≡◌};
-ghost use Rattle.std.specs.Option.{option_map};
 ghost use Rattle.sx_decode.specs.Reading.{Reads};
 ghost use Rattle.sx_decode.specs.Contents.{content_text, digest_read, digest_of, content_of};
 

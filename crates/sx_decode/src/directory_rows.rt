@@ -1,6 +1,5 @@
 //! The calls on directories: what each reads, in order.
 
-ghost use Rattle.std.specs.Prelude.{◌≡◌};
 ghost use Rattle.sx_decode.specs.Reading.{Reads};
 ghost use Rattle.sx_decode.specs.DirectoryRows.{create_directory, set_directory_metadata, delete_directory};
 ghost use Rattle.sx_decode.specs.DirectoryRows.{list_directory};

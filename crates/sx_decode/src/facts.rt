@@ -2,7 +2,6 @@
 
 ghost use Rattle.std.specs.Prelude.{◌≡◌, map, true, false, IfOk};
 ghost use Rattle.std.specs.List.{list_all};
-ghost use Rattle.std.specs.Option.{option_map};
 ghost use Rattle.sx_decode.specs.Reading.{Reads};
 ghost use Rattle.sx_decode.specs.Facts.{names, is_former_attribute, is_latter_attribute, is_attribute, stands};
 ghost use Rattle.sx_decode.specs.Facts.{is_once, are_once, attributes_named};

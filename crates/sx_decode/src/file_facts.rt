@@ -1,6 +1,5 @@
 //! The facts of files that calls give: attributes, times, and what is read behind them.
 
-ghost use Rattle.std.specs.Prelude.{◌≡◌};
 ghost use Rattle.sx_decode.specs.Reading.{Reads};
 ghost use Rattle.sx_decode.specs.FileRows.{new_facts, set_facts};
 

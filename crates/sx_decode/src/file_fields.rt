@@ -1,8 +1,8 @@
 //! What calls on files alone read.
 
-ghost use Rattle.std.specs.Prelude.{◌≡◌, true};
+ghost use Rattle.std.specs.Prelude.{true};
 ghost use Rattle.sx_decode.specs.Reading.{Reads, ReadsBy};
-ghost use Rattle.sx_decode.specs.FileRows.{word_read, needed_word, length_read, new_length, set_length};
+ghost use Rattle.sx_decode.specs.FileRows.{needed_word, length_read, new_length, set_length};
 
 use crate::lookup::{needed_header, one_header};
 use crate::numbers::{limited, number_of};

@@ -1,6 +1,5 @@
 //! The calls on files, but for those on their ranges: what each reads, in order.
 
-ghost use Rattle.std.specs.Prelude.{◌≡◌};
 ghost use Rattle.sx_decode.specs.Reading.{Reads};
 ghost use Rattle.sx_decode.specs.FileRows.{new_file, create_file, get_file, get_file_properties};
 ghost use Rattle.sx_decode.specs.FileRows.{set_properties, set_file_properties, get_file_metadata};

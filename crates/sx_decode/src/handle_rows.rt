@@ -1,6 +1,5 @@
 //! The calls on handles: what each reads, in order.
 
-ghost use Rattle.std.specs.Prelude.{◌≡◌};
 ghost use Rattle.sx_decode.specs.Reading.{Reads};
 ghost use Rattle.sx_decode.specs.DirectoryRows.{list_handles, force_close_handles};
 

@@ -1,6 +1,6 @@
 //! Headers that may be there once.
 
-ghost use Rattle.std.specs.Prelude.{◌≡◌, Ok, Err, map, codes};
+ghost use Rattle.std.specs.Prelude.{Ok, map};
 ghost use Rattle.std.specs.Option.{option_map};
 ghost use Rattle.sx_call.specs.declared.refusals.Syntax.TheVariants.{Header as BadHeader};
 ghost use Rattle.sx_decode.specs.Reading.{ReadsBy};

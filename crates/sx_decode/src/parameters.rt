@@ -1,15 +1,14 @@
 //! The query of a target.
 
-ghost use Rattle.std.specs.Prelude.{◌≡◌, ◌≤◌, ◌==◌, IfOk, Err, map, length, position};
+ghost use Rattle.std.specs.Prelude.{◌≡◌, ◌≤◌, ◌==◌, IfOk, map, length, position};
 ghost use Rattle.std.specs.List.{slice_split, before_first, after_first, position_or_len};
 ghost use Rattle.std.specs.Char.{to_ascii_lowercase};
 ghost use Rattle.std.specs.Option.{option_map};
-ghost use Rattle.percent_encoding.specs.Percent.{percent_decode};
 ghost use Rattle.sx_call.specs.declared.refusals.Syntax.TheVariants.{Query};
 ghost use Rattle.sx_decode.specs.Reading.{Reads, ReadsBy};
 ghost use Rattle.sx_decode.specs.Lookup.{only};
 ghost use Rattle.sx_decode.specs.Parameters.{has_name, parameter_of, parameters, parameter_values, encoded};
-ghost use Rattle.sx_decode.specs.Parameters.{encoded_or_none, one_parameter};
+ghost use Rattle.sx_decode.specs.Parameters.{one_parameter};
 
 use crate::escapes::{decoded, decoded_text};
 use crate::refusals::{refuse_parameter, refuse_query};

@@ -1,6 +1,6 @@
 //! The calls on the ranges of files: what each reads, in order.
 
-ghost use Rattle.std.specs.Prelude.{◌≡◌, ◌<◌, ◌≤◌, ◌-◌, IfOk};
+ghost use Rattle.std.specs.Prelude.{◌<◌, ◌≤◌, ◌-◌, IfOk};
 ghost use Rattle.sx_extent.specs.declared.piece.TheConstants.{PIECE_LIMIT};
 ghost use Rattle.sx_call.specs.declared.ranges.TheConstants.{OFFSET_LIMIT};
 ghost use Rattle.sx_decode.specs.Reading.{Reads};

@@ -1,6 +1,6 @@
 //! The reasons why a request is no call, each with the name of what is to blame.
 
-ghost use Rattle.std.specs.Prelude.{◌≡◌, Ok, Err};
+ghost use Rattle.std.specs.Prelude.{Err};
 ghost use Rattle.std.specs.Option.{option_map};
 ghost use Rattle.sx_call.specs.declared.refusals.Syntax.TheVariants.{Header as BadHeader, Query, Missing, Range};
 ghost use Rattle.sx_call.specs.declared.refusals.Syntax.TheVariants.{NoCall, Uri};

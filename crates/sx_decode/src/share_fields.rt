@@ -1,6 +1,5 @@
 //! What calls on shares alone read.
 
-ghost use Rattle.std.specs.Prelude.{◌≡◌};
 ghost use Rattle.sx_decode.specs.Reading.{Reads};
 ghost use Rattle.sx_decode.specs.ShareRows.{quota_read, new_quota, set_quota, include_of};
 

@@ -1,6 +1,5 @@
 //! The calls on shares: what each reads, in order.
 
-ghost use Rattle.std.specs.Prelude.{◌≡◌};
 ghost use Rattle.sx_decode.specs.Reading.{Reads};
 ghost use Rattle.sx_decode.specs.ShareRows.{list_shares, create_share, get_share_properties, set_share_properties};
 ghost use Rattle.sx_decode.specs.ShareRows.{get_share_metadata, set_share_metadata, delete_share, delete_snapshot};

@@ -1,6 +1,6 @@
 //! The call that a request spells.
 
-ghost use Rattle.std.specs.Prelude.{◌≡◌, Ok};
+ghost use Rattle.std.specs.Prelude.{Ok};
 ghost use Rattle.std.specs.List.{before_first, after_first};
 ghost use Rattle.sx_decode.specs.Reading.{Reads, with_next};
 ghost use Rattle.sx_decode.specs.Bodies.{no_body};

@@ -1,10 +1,9 @@
 //! What the path of a target names.
 
-ghost use Rattle.std.specs.Prelude.{◌≡◌, Err, Ok, map, ◌∷◌};
-ghost use Rattle.sx_names.specs.Fault.{whole_fault};
+ghost use Rattle.std.specs.Prelude.{◌≡◌, Err, Ok, map};
 ghost use Rattle.sx_decode.specs.Reading.{Reads, each_read};
 ghost use Rattle.sx_decode.specs.Targets.{segment_of, share_of, part_of, path_of, place_of_segments};
-ghost use Rattle.sx_decode.specs.Targets.{place_behind_slash, place_of, without_slash, below_root, unless_broken};
+ghost use Rattle.sx_decode.specs.Targets.{place_behind_slash, place_of, without_slash, below_root};
 ghost use Rattle.sx_call.specs.declared.refusals.Syntax.TheVariants.{Uri};
 
 use crate::escapes::{decoded, first_bad};

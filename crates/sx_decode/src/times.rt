@@ -1,6 +1,5 @@
 //! Times of files and directories.
 
-ghost use Rattle.std.specs.Prelude.{◌≡◌};
 ghost use Rattle.sx_decode.specs.Reading.{Reads};
 ghost use Rattle.sx_decode.specs.Facts.{moment_named, new_time, set_time};
 

@@ -3,9 +3,9 @@
 //! A granule has an entry exactly where it is marked, so a file of 4 TiB with one marked granule has one entry.
 //! Each call looks up the granules of its interval, or those that have an entry there, so it takes time in proportion
 //! to these and to the logarithm of the number of entries, and none of it for the file's length.
-ghost use Rattle.std.specs.Prelude.{◌≡◌, ◌+◌, ◌-◌, ◌*◌, ◌/◌, ◌%◌, ◌≤◌, ◌<◌, ℕ, Bool, true, false, not, ◌&&◌};
-ghost use Rattle.std.specs.Prelude.{if◌then◌else◌, nat_le, nat_lt, ◌==◌, replicate, length, filter, map, take, drop};
-ghost use Rattle.std.specs.Prelude.{◌++◌, option_map, IfOk, IfSome, IfNone, OnOk, OnErr, IsTrue, None, Some};
+ghost use Rattle.std.specs.Prelude.{◌≡◌, ◌+◌, ◌-◌, ◌*◌, ◌/◌, ◌%◌, ◌≤◌, ◌<◌, ℕ, true, false, not, ◌&&◌};
+ghost use Rattle.std.specs.Prelude.{if◌then◌else◌, nat_lt, ◌==◌, replicate, length, filter, map, take, drop};
+ghost use Rattle.std.specs.Prelude.{◌++◌, option_map, IfOk, IfSome, IfNone, OnOk, OnErr, None, Some};
 ghost use Rattle.std.specs.List.{range_with_len, list_any, All};
 ghost use Rattle.sx_extent.specs.Ranges.{covers, touches, most_bytes, joined, part_of_granule};
 ghost use Rattle.sx_extent.specs.Granules.{granule_at, has_granule, byte_at, bytes_from, IsSized, IsWritten, IsUpdated};

@@ -1,7 +1,7 @@
 //! The byte-range locks of one file, and what they forbid.
-ghost use Rattle.std.specs.Prelude.{◌≡◌, ◌↔◌, ◌≤◌, ◌<◌, ◌∷◌, [], false, not, All, IfNone, IfSome, IsOkUnless, IsTrue};
+ghost use Rattle.std.specs.Prelude.{◌≡◌, ◌↔◌, ◌<◌, [], false, not, All, IfNone, IfSome, IsOkUnless, IsTrue};
 ghost use Rattle.std.specs.Prelude.{List, MatchOption, OnErr, OnOk, Some, filter, find, length, position};
-ghost use Rattle.std.specs.List.{list_any, position_or_len};
+ghost use Rattle.std.specs.List.{list_any};
 ghost use Rattle.sx_guard.specs.Ordered.{IsLeast, insert_by, remove_first};
 ghost use Rattle.sx_guard.specs.Locks.{AreLocks, forbids_lock, forbids_read, forbids_write, is_held_by, is_lock};
 ghost use Rattle.sx_guard.specs.Locks.{lock_before, overlaps, SharesByte};

@@ -1,8 +1,7 @@
 //! The opens of one file or directory, and when they forbid a new one.
-ghost use Rattle.std.specs.Prelude.{◌≡◌, ◌≤◌, ◌∷◌, [], true, false, not, All, Any, IfNone, IfSome, IsTrue, List, OnErr};
+ghost use Rattle.std.specs.Prelude.{◌≡◌, [], true, false, not, All, IfNone, IfSome, List, OnErr};
 ghost use Rattle.std.specs.Prelude.{OnOk, filter, length, position};
-ghost use Rattle.std.specs.List.{list_any, position_or_len};
-ghost use Rattle.sx_guard.specs.Handle.{handle_before};
+ghost use Rattle.std.specs.List.{list_any};
 ghost use Rattle.sx_guard.specs.Ordered.{insert_by, remove_first};
 ghost use Rattle.sx_guard.specs.Sharing.{AreOpens, IsLeastHandle, first_handle, forbids, is_changing, is_open_of};
 ghost use Rattle.sx_guard.specs.Sharing.{open_before};

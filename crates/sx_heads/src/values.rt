@@ -1,8 +1,8 @@
 //! The texts of values.
 
-ghost use Rattle.std.specs.Prelude.{◌≡◌, ◌++◌, ◌∷◌, [], IfOk, OnOk, if◌then◌else◌, decimal};
+ghost use Rattle.std.specs.Prelude.{◌≡◌, ◌++◌, IfOk, OnOk, decimal};
 ghost use Rattle.sx_base.specs.Moment.{moment_text};
-ghost use Rattle.sx_heads.specs.Values.{id_text, bytes_text, handle_text, handle_or_all, bool_text, attributes_text};
+ghost use Rattle.sx_heads.specs.Values.{id_text, bytes_text, handle_text, bool_text, attributes_text};
 ghost use Rattle.sx_heads.specs.Values.{shares_marker_text, at_moment, last_text};
 ghost use Rattle.sx_heads.specs.Words.{with_word, with_former, with_latter, or_none};
 

@@ -1,7 +1,7 @@
 //! Heads read from bytes.
 
 ghost use Rattle.std.specs.Prelude.{◌≡◌, ◌≤◌, ◌&&◌, nat_le, if◌then◌else◌, All, IfOk, OnOk, Some, None, IsUtf8};
-ghost use Rattle.std.specs.Prelude.{length, drop, map};
+ghost use Rattle.std.specs.Prelude.{length, map};
 ghost use Rattle.httparse.specs.Grammar.{IsToken, RequestHead};
 ghost use Rattle.httparse.specs.Spans.{span_bytes, IsHeaderWithin, IsRequestAt, IsRequestOf, IsRequestWithin};
 ghost use Rattle.sx_http.specs.Heads.{lower, head_of, header_at, head_window, HeadFor, IsParsed};

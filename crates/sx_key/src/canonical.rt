@@ -1,7 +1,7 @@
 //! Canonical headers: the headers of Azure's own, in order of name.
 
-ghost use Rattle.std.specs.Prelude.{◌≡◌, ◌++◌, ◌==◌, ◌||◌, OnOk, IfOk, map, nat_eq, length, nat_lt};
-ghost use Rattle.std.specs.List.{filter, flat_map, slice_split, starts_with};
+ghost use Rattle.std.specs.Prelude.{◌≡◌, ◌++◌, ◌==◌, ◌||◌, OnOk, IfOk, map};
+ghost use Rattle.std.specs.List.{filter, slice_split, starts_with};
 ghost use Rattle.sx_key.specs.Signature.{is_space_or_tab, is_not_empty, single_spaced, is_ms_header, canonical_field};
 ghost use Rattle.sx_key.specs.Signature.{canonical_fields, canonical_headers};
 

@@ -1,6 +1,6 @@
 //! The check of a signed request.
 
-ghost use Rattle.std.specs.Prelude.{◌≡◌, map};
+ghost use Rattle.std.specs.Prelude.{map};
 ghost use Rattle.sx_key.specs.Answers.{Answers};
 ghost use Rattle.sx_http.specs.Lookup.{header_values};
 ghost use Rattle.sx_key.specs.Checking.{auth, request_date, only_date, or_bad_date, date_moment, check_date};

@@ -1,6 +1,6 @@
 //! Names with their values, and the lines in which each name stands once.
 
-ghost use Rattle.std.specs.Prelude.{◌≡◌, ◌++◌, ◌∷◌, ◌<◌, ◌≤◌, OnOk, length, map, take, drop, not, bytes_eq, position};
+ghost use Rattle.std.specs.Prelude.{◌≡◌, ◌++◌, ◌∷◌, ◌<◌, ◌≤◌, OnOk, length, map, not, bytes_eq, position};
 ghost use Rattle.std.specs.List.{flat_map, position_or_len};
 ghost use Rattle.std.specs.List.Sorted.{IsPermutation, IsSortedByKey};
 ghost use Rattle.sx_key.specs.Texts.{byte_order, joined_text};

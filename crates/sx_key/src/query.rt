@@ -1,7 +1,7 @@
 //! The canonical resource: the account, the path, and the query's parameters, decoded and in order.
 
 ghost use Rattle.std.specs.Prelude.{◌≡◌, ◌++◌, ◌==◌, OnOk, IfOk, map};
-ghost use Rattle.std.specs.List.{filter, flat_map, slice_split};
+ghost use Rattle.std.specs.List.{filter, slice_split};
 ghost use Rattle.std.specs.Char.{to_ascii_lowercase};
 ghost use Rattle.percent_encoding.specs.Percent.{percent_decode};
 ghost use Rattle.sx_key.specs.Signature.{is_and, is_not_empty, parameter, parameters, parameter_lines};

@@ -1,12 +1,10 @@
 //! StringToSign, and the signature under an account's key.
 
-ghost use Rattle.std.specs.Prelude.{◌≡◌, ◌++◌, ◌∷◌, [], OnOk, IfOk, map, string_bytes, codes, List, ℕ};
+ghost use Rattle.std.specs.Prelude.{◌≡◌, ◌++◌, OnOk, IfOk, map};
 ghost use Rattle.std.specs.Str.Lossy.{utf8_lossy};
-ghost use Rattle.base64.specs.GeneralPurpose.{encode_of};
-ghost use Rattle.base64.specs.Engines.{standard};
 ghost use Rattle.sx_key.specs.Texts.{text_line};
-ghost use Rattle.sx_key.specs.Signature.{header_lines, signed_length, signed_date, names_first, names_between};
-ghost use Rattle.sx_key.specs.Signature.{names_last, standard_lines, signed_bytes, string_to_sign, signature};
+ghost use Rattle.sx_key.specs.Signature.{header_lines, signed_length, signed_date};
+ghost use Rattle.sx_key.specs.Signature.{standard_lines, signed_bytes, string_to_sign, signature};
 ghost use Rattle.sx_key.specs.Signature.{authorization, joined_header};
 
 use crate::account::Account;

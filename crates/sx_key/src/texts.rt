@@ -1,6 +1,6 @@
 //! Texts in a row, values by name, and pieces of a text.
 
-ghost use Rattle.std.specs.Prelude.{◌≡◌, ◌≤◌, ◌++◌, ◌∷◌, [], ◌==◌, OnOk, IfOk, map, length, bytes_eq, position, true};
+ghost use Rattle.std.specs.Prelude.{◌≡◌, ◌≤◌, ◌++◌, ◌∷◌, [], ◌==◌, OnOk, map, length, position, true};
 ghost use Rattle.std.specs.Str.{is_utf8};
 ghost use Rattle.std.specs.List.{flat_map, join_with_byte, before_first, after_first, position_or_len};
 ghost use Rattle.sx_key.specs.Signature.{joined_header};

@@ -4,7 +4,7 @@ ghost use Rattle.std.specs.List.{flat_map};
 ghost use Rattle.hex.specs.Hex.{encode_lower};
 ghost use Rattle.sx_base.specs.Sink.{Prints};
 ghost use Rattle.sx_base.specs.Printer.{Gathers};
-ghost use Rattle.sx_listing.specs.Percent.{percent_byte, percent_text, is_unreserved, upper_digit};
+ghost use Rattle.sx_listing.specs.Percent.{percent_byte, is_unreserved, upper_digit};
 ghost use Rattle.sx_lines.specs.Printed.{word_text};
 
 use itoa::Buffer;

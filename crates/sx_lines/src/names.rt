@@ -1,6 +1,6 @@
 //! Names in lines: of shares as they stand, of files and directories percent-encoded (RFC 3986, section 2.1).
-ghost use Rattle.std.specs.Prelude.{◌≡◌, ◌<◌, ◌∷◌, map, length, IfOk, slice_index};
-ghost use Rattle.std.specs.List.{list_any, range_with_len, slice_split};
+ghost use Rattle.std.specs.Prelude.{◌≡◌, ◌<◌, map, length, IfOk, slice_index};
+ghost use Rattle.std.specs.List.{slice_split};
 ghost use Rattle.std.specs.Char.{is_digit};
 ghost use Rattle.std.specs.Str.{is_utf8};
 ghost use Rattle.percent_encoding.specs.Percent.{percent_decode};

@@ -1,5 +1,5 @@
 //! The line that opens a file or directory.
-ghost use Rattle.std.specs.Prelude.{◌≡◌, codes};
+ghost use Rattle.std.specs.Prelude.{◌≡◌};
 ghost use Rattle.sx_lines.specs.Reading.{Reads};
 ghost use Rattle.sx_lines.specs.Words.{judged, next_word};
 ghost use Rattle.sx_lines.specs.Fields.{rights_of, mode_of, how_of};

@@ -1,5 +1,5 @@
 //! Reading a session's line.
-ghost use Rattle.std.specs.Prelude.{◌≡◌, ◌-◌, length};
+ghost use Rattle.std.specs.Prelude.{◌-◌};
 ghost use Rattle.sx_lines.specs.Reading.{Reads, ReadsLine};
 ghost use Rattle.sx_lines.specs.Lines.{quit_line, call_said, call_by, line_read, line_of};
 

@@ -1,10 +1,10 @@
 //! The body of an error.
 
-ghost use Rattle.std.specs.Prelude.{◌≡◌, IfOk, List, ℕ, Result};
+ghost use Rattle.std.specs.Prelude.{◌≡◌, IfOk, Result};
 ghost use Rattle.sx_text.specs.Given.{Gives};
 ghost use Rattle.sx_text.specs.Escapes.{IsWhole};
 ghost use Rattle.sx_listing.specs.Body.{ReadsBody, IsReadAs};
-ghost use Rattle.sx_listing.specs.Error.{error_text, IsError, code_at, message_at, error_of, error_at};
+ghost use Rattle.sx_listing.specs.Error.{error_text, IsError, code_at, message_at, error_at};
 ghost use Rattle.sx_listing.specs.declared.body.BodyFault.{BodyFault};
 ghost use Rattle.sx_listing.specs.declared.error.ErrorBody.{ErrorBody};
 

@@ -1,6 +1,6 @@
 //! The body that lists a directory, read.
 
-ghost use Rattle.std.specs.Prelude.{◌≡◌, IfOk, Result};
+ghost use Rattle.std.specs.Prelude.{IfOk, Result};
 ghost use Rattle.sx_names.specs.declared.page.NamesPage.{NamesPage};
 ghost use Rattle.sx_text.specs.Given.{Reads, Gives};
 ghost use Rattle.sx_text.specs.Escapes.{IsWhole};

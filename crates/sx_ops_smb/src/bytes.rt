@@ -1,6 +1,5 @@
 //! Calls that read and write the bytes of an open file, or set its length.
-ghost use Rattle.std.specs.Prelude.{◌≡◌, ◌+◌, ◌==◌, ◌≤◌, if◌then◌else◌, IfOk, OnErr, OnOk, length};
-ghost use Rattle.sx_extent.specs.Ranges.{cut};
+ghost use Rattle.std.specs.Prelude.{◌≡◌, ◌==◌, ◌≤◌, if◌then◌else◌, IfOk, OnErr, OnOk, length};
 ghost use Rattle.sx_spec.specs.Changes.{put_file};
 ghost use Rattle.sx_spec.specs.Checks.{first_check, held_checks};
 ghost use Rattle.sx_spec.specs.Facts.{length_of, with_stamp, with_write};

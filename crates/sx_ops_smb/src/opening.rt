@@ -12,7 +12,7 @@ ghost use Rattle.sx_tree.specs.Node.{directory_attributes};
 ghost use Rattle.sx_tree.specs.declared.node.Kind.TheVariants.{Directory, File};
 
 use std::alloc::Global;
-use sx_call::{Call, Entry, How, Open, Refusal, Reply, SmbOpen, SmbReply, Stamp};
+use sx_call::{Entry, How, Open, Refusal, Reply, SmbOpen, SmbReply, Stamp};
 use sx_extent::Ranges;
 use sx_guard::{HandleId, HandleIndex};
 use sx_lease::LeaseState;

@@ -1,5 +1,5 @@
 //! Printing a page: the front and end that every head has, around what the page has of its own.
-ghost use Rattle.std.specs.Prelude.{codes, ◌≡◌, ◌++◌, length};
+ghost use Rattle.std.specs.Prelude.{◌≡◌, ◌++◌, length};
 ghost use Rattle.std.specs.List.{flat_map};
 ghost use Rattle.sx_base.specs.Sink.{Prints};
 ghost use Rattle.sx_base.specs.Printer.{Gathers};

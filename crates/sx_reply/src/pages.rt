@@ -1,5 +1,5 @@
 //! Printing pages of each form: with no body, with a text, with a fault, and with the bytes of a file.
-ghost use Rattle.std.specs.Prelude.{codes, ◌≡◌, ◌≤◌, ◌*◌, ◌+◌, ◌^◌, ◌++◌, [], length};
+ghost use Rattle.std.specs.Prelude.{◌≡◌, ◌+◌, ◌++◌, [], length};
 ghost use Rattle.std.specs.List.{flat_map};
 ghost use Rattle.sx_base.specs.Sink.{Prints};
 ghost use Rattle.sx_reply.specs.Words.{word_text};

@@ -1,5 +1,5 @@
 //! Printing the replies of calls.
-ghost use Rattle.std.specs.Prelude.{codes, decimal, ◌≡◌, [], true, if◌then◌else◌};
+ghost use Rattle.std.specs.Prelude.{◌≡◌, [], true, if◌then◌else◌};
 ghost use Rattle.std.specs.List.{flat_map};
 ghost use Rattle.sx_base.specs.Sink.{Prints};
 ghost use Rattle.sx_call.specs.declared.replies.Reply.{Reply};

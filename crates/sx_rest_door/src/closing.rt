@@ -1,8 +1,7 @@
 //! When a connection closes behind an answer, and how the answer to a request is printed.
 ghost use Rattle.std.specs.Prelude.{◌≡◌};
-ghost use Rattle.std.specs.List.{list_any, slice_split};
-ghost use Rattle.sx_http.specs.Lookup.{is_named};
-ghost use Rattle.sx_rest_door.specs.Closing.{is_comma, is_close, says_close, has_close, closes, shape_of};
+ghost use Rattle.std.specs.List.{list_any};
+ghost use Rattle.sx_rest_door.specs.Closing.{is_close, says_close, has_close, closes, shape_of};
 
 use sx_decode::words::is_word_in_blanks;
 use sx_http::{Head, Header};

@@ -1,5 +1,4 @@
 //! What the tests share: what the service is given, signed requests, and links in memory.
-ghost use Rattle.std.specs.Prelude.{◌≡◌};
 
 use std::alloc::Global;
 use std::process::Abort;

@@ -3,7 +3,7 @@
 //! Of each link one put is marked, the first that begins with certain bytes. It is counted as it begins and as it
 //! ends. It can wait until so many have begun and so many have ended, and so can the link's first read. A wait that
 //! comes to no end is given up, and with it all others.
-ghost use Rattle.std.specs.Prelude.{◌≡◌, ℕ, None};
+ghost use Rattle.std.specs.Prelude.{◌≡◌, None};
 
 use std::alloc::Global;
 use std::sync::atomic::AtomicU64;

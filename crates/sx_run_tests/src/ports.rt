@@ -1,5 +1,5 @@
 //! The ports that the service tells, handed from its output to another thread.
-ghost use Rattle.std.specs.Prelude.{◌≡◌, ⊤};
+ghost use Rattle.std.specs.Prelude.{⊤};
 
 use std::alloc::Global;
 use std::process::Abort;

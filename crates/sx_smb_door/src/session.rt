@@ -1,5 +1,5 @@
 //! A session from its start to its end.
-ghost use Rattle.std.specs.Prelude.{◌≡◌, ◌+◌, ◌<◌, ◌≤◌, ◌^◌, [], true, false, ℕ, MatchOption, length};
+ghost use Rattle.std.specs.Prelude.{◌≡◌, ◌+◌, ◌<◌, ◌≤◌, ◌^◌, [], true, false, MatchOption, length};
 ghost use mathlib.Core.List.{IsPrefix};
 ghost use Rattle.sx_call.specs.Calls.{door_of};
 ghost use Rattle.sx_call.specs.declared.doors.Door.TheVariants.{InSession};

@@ -1,5 +1,5 @@
 //! The opens by node: a list in order of node and handle, in which the opens of a node stand side by side.
-ghost use Rattle.std.specs.Prelude.{◌≡◌, ◌<◌, ◌≤◌, OnErr, OnOk, drop, filter, find, length, nat_lt, not, option_map};
+ghost use Rattle.std.specs.Prelude.{◌≡◌, ◌<◌, ◌≤◌, drop, filter, find, length, nat_lt, not, option_map};
 ghost use Rattle.std.specs.Prelude.{position, take, vec_capacity, vec_len};
 ghost use Rattle.std.specs.List.{position_or_len, prefix_len};
 ghost use Rattle.std.specs.Option.{option_copied};

@@ -1,7 +1,7 @@
 //! What each call needs, one table a question: access, touched interval, lease, ReadOnly attribute, range, new marks.
 ghost use Rattle.std.specs.Prelude.{◌≡◌, ◌≤◌};
 ghost use Rattle.sx_spec.specs.Needs.{access_needed, between, end_of_last, end_of_span, first_of_span, fresh_within};
-ghost use Rattle.sx_spec.specs.Needs.{heeds_read_only, is_out_of_file, lease_given, new_marks, no_access, starts_past};
+ghost use Rattle.sx_spec.specs.Needs.{heeds_read_only, is_out_of_file, lease_given, new_marks, starts_past};
 ghost use Rattle.sx_spec.specs.Needs.{touched, writes_under_lease};
 ghost use Rattle.sx_spec.specs.Places.{has_rights};
 

@@ -4,9 +4,9 @@ ghost use Rattle.std.specs.Prelude.{◌≡◌, ◌+◌, ◌<◌, ◌^◌, find};
 ghost use Rattle.std.specs.List.{list_any};
 ghost use Rattle.std.specs.Option.{option_copied};
 ghost use Rattle.sx_base.specs.Entries.{value_at};
-ghost use Rattle.sx_spec.specs.Account.{has_handle, has_name, share_named};
+ghost use Rattle.sx_spec.specs.Account.{has_name, share_named};
 ghost use Rattle.sx_spec.specs.Places.{directory_place, file_at, file_place, handle_place, held_directory, held_file};
-ghost use Rattle.sx_spec.specs.Places.{is_pending, kept_volume, live_volume, making_place, may_make, node_in};
+ghost use Rattle.sx_spec.specs.Places.{is_pending, kept_volume, live_volume, making_place, may_make};
 ghost use Rattle.sx_spec.specs.Places.{node_place, not_pending, of_kind, share_at, spot_at, vacancy, volume_at};
 ghost use Rattle.sx_spec.specs.Places.{volume_in};
 ghost use Rattle.sx_spec.specs.Shares.{is_of_moment};
@@ -17,7 +17,7 @@ use crate::places::{
     FilePlace, HandlePlace, HeldFile, MakingPlace, NodePlace, SharePlace, Spot, Volume, Where,
 };
 use crate::state::State;
-use sx_call::{Open, Refusal, Stamp, Target};
+use sx_call::{Refusal, Stamp, Target};
 use sx_guard::{Access, HandleId};
 use sx_lease::ShareLease;
 use sx_moment::Moment;

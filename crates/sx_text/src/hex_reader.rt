@@ -1,5 +1,5 @@
 //! Reading a fixed number of hexadecimal digits, with the place of their fault.
-ghost use Rattle.std.specs.Prelude.{◌≡◌, ◌<◌, ◌≤◌, ◌^◌, suc, true, IfOk};
+ghost use Rattle.std.specs.Prelude.{◌≡◌, ◌<◌, ◌≤◌, true};
 ghost use Rattle.sx_text.specs.Hex.{is_hex_digit, hex_value, hex_step, hex_at, hex_after};
 ghost use Rattle.sx_text.specs.Given.{Reads};
 ghost use Rattle.sx_text.specs.Steps.{digits_shown, HasRoom, LeavesRoom};

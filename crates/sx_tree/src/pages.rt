@@ -2,7 +2,6 @@
 ghost use Rattle.std.specs.Prelude.{◌≡◌, Some, IfOk};
 ghost use Rattle.sx_tree.specs.Pages.{folded_name, item_of, names_between, names_page, page_items, page_next};
 ghost use Rattle.sx_tree.specs.Pages.{folded_or_empty, kept_or_empty, names_from, slot_item};
-ghost use Rattle.sx_tree.specs.Tree.{slot_at};
 
 use crate::paths::text_of;
 use crate::slot::NodeSlot;

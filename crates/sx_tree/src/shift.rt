@@ -1,7 +1,6 @@
 //! A node that gets another directory and another name.
 ghost use Rattle.std.specs.Prelude.{◌≡◌, ◌+◌, Some, option_and_then, OnOk, OnErr};
 ghost use Rattle.sx_base.specs.Entries.{change_at, value_at};
-ghost use Rattle.sx_names.specs.Names.{fold};
 ghost use Rattle.sx_tree.specs.Shift.{is_named, left_place, other_child, relist, relocated, replaced_at, shift};
 ghost use Rattle.sx_tree.specs.Shift.{without_replaced};
 ghost use Rattle.sx_tree.specs.Tree.{child_of, slots_use};

@@ -5,7 +5,6 @@ ghost use Rattle.std.specs.Option.{option_copied};
 ghost use Rattle.std.specs.Ordering.{nat_cmp};
 ghost use Rattle.std.specs.BTreeMap.{insert_entry};
 ghost use Rattle.sx_base.specs.Entries.{value_at, change_at};
-ghost use Rattle.sx_names.specs.Names.{fold};
 ghost use Rattle.sx_tree.specs.Body.{body_after};
 ghost use Rattle.sx_tree.specs.Tree.{new_nodes, slot_at, node_at, facts_at, tree_use, use_at, is_empty, with_node};
 ghost use Rattle.sx_tree.specs.Tree.{with_child};

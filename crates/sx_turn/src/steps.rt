@@ -1,8 +1,6 @@
 //! The calls' steps on the table. Each takes the shared table and a seat at it.
 ghost use Rattle.std.specs.Prelude.{◌≡◌, ◌<◌, ◌∷◌, [], Some, None, ℕ, IfOk, IfErr};
 ghost use Rattle.std.specs.List.{AllByRecursion};
-ghost use mathlib.Core.List.{IsPrefix};
-ghost use Rattle.sx_turn.specs.Places.{places};
 ghost use Rattle.sx_turn.specs.Views.{with_ticket, in_turn, after_next, newcomer, first_view, merged, owned_count};
 ghost use Rattle.sx_turn.specs.Views.{Extends, IsSound};
 ghost use Rattle.sx_turn.specs.Moves.{IsBoard, IsIdle, TurnBegins, MayEnd, TurnEnds, MayPutBack, CountedInTurn};
